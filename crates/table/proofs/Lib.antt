@@ -1,0 +1,4 @@
+mod Fields
+mod Descents
+mod Chains
+mod WordsRead
