@@ -1,0 +1,7 @@
+pub mod Accesses
+pub mod Registers
+pub mod Tables
+pub mod Rights
+pub mod Host
+pub mod Stages
+pub mod Numbers
