@@ -49,6 +49,13 @@ isInRange p = eqb (p / 2 ^ 29) 0
 abbrev pub unreached : ℕ → HostFault → Unreached
 unreached address fault = record { address = address; fault = fault }
 
+-- the frame lies inside a memory of these words
+abbrev pub isInside : List ℕ → ℕ → Bool
+isInside ws f = ltb f (length ws / 512)
+
+abbrev pub insideOf : List ℕ → Landing → Result Landing HostFault
+insideOf ws at = cond (isInside ws (at .frame)) (Ok at) (Err (Word outside))
+
 module _ (ws : List ℕ) (register : ℕ) where
   -- the path of a guest-physical page, whatever the rights
   abbrev pub hostPath : ℕ → Result Landing HostFault
@@ -73,13 +80,6 @@ module _ (ws : List ℕ) (register : ℕ) where
   abbrev pub guestReads : ℕ → Result ℕ Unreached
   guestReads i = mapped (λ word. word) (unreached (i * 8)) (hostLoad i)
 
-  -- the frame lies inside the memory
-  abbrev pub isInside : ℕ → Bool
-  isInside f = ltb f (length ws / 512)
-
-  abbrev pub insideAt : Landing → Result Landing HostFault
-  insideAt at = cond (isInside (at .frame)) (Ok at) (Err (Word outside))
-
   -- the host stage of the final address of an access, whose frame has to lie inside the memory
   abbrev pub hostReach : Kind → ℕ → Result Landing HostFault
-  hostReach k p = andThen (hostStage k p) insideAt
+  hostReach k p = andThen (hostStage k p) (insideOf ws)

@@ -4,4 +4,5 @@ pub mod Tables
 pub mod Rights
 pub mod Host
 pub mod Stages
+pub mod Paths
 pub mod Numbers

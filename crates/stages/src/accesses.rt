@@ -38,9 +38,9 @@ impl Access {
     }
 
     /// Which of the 512 words of its page it is for.
-    pub fn word(self) -> u64
+    pub fn word(self) -> u16
         ensures { λ r. ⌜ r ≡ wordOf self ⌝ }
     {
-        self.address / 8 % 512
+        (self.address / 8 % 512) as u16
     }
 }

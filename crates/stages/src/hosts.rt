@@ -115,7 +115,8 @@ pub fn host_reach<M: Memory>(
     kind: Kind,
     page: Page,
 ) -> Result<Landing, HostFault>
-    ensures { λ r. ⌜ r ≡ hostReach (words (now (memory .entry))) (root .register) kind (page .number) ⌝ }
+    ensures answer { λ r. ⌜ r ≡ hostReach (words (now (memory .entry))) (root .register) kind (page .number) ⌝ }
+    ensures inside { λ r. ⌜ made r (λ at. at .frame < 4096) ⌝ }
 {
     let at = host_stage(memory, root, kind, page)?;
     if at.frame < memory.frames() {

@@ -2,7 +2,11 @@
 ghost use mathlib.Core.Path.{_≡_};
 ghost use Prim.Native.Nat.{ℕ, _<_, _^_};
 ghost use denote.Ref.{now};
+ghost use mathlib.Core.Logic.{_↔_};
+ghost use Rattle.std.specs.declared.result.Result.the-variants.{Ok};
 ghost use Rattle.std.specs.Vec.{made};
+ghost use Rattle.stages.specs.declared.outcomes.Translation.{Translation};
+ghost use Rattle.stages.specs.Paths.{Granted};
 ghost use Rattle.stages.specs.Stages.{worldOf, guestPath, guestStage, finalStage, twoStages, translateOf};
 use crate::accesses::Access;
 use crate::faults::Fault;
@@ -66,7 +70,8 @@ fn final_stage<M: Memory>(
     at: Landing,
 ) -> Result<Landing, Unreached>
     requires { ⌜ at .frame < 2 ^ 52 ⌝ }
-    ensures { λ r. ⌜ r ≡ finalStage (worldOf (words (now (memory .entry))) roots) access at ⌝ }
+    ensures answer { λ r. ⌜ r ≡ finalStage (worldOf (words (now (memory .entry))) roots) access at ⌝ }
+    ensures inside { λ r. ⌜ made r (λ end. end .frame < 4096) ⌝ }
 {
     let page = Page { number: at.frame };
     match host_reach(memory, roots.host, access.kind, page) {
@@ -92,7 +97,7 @@ fn two_stages<M: Memory>(
     let at = guest_stage(memory, roots, access)?;
     let end = final_stage(memory, roots, access, at)?;
     Ok(Translation {
-        frame: end.frame,
+        frame: end.frame as u16,
         word: access.word(),
         guest: at.leaf,
         host: end.leaf,
@@ -101,7 +106,8 @@ fn two_stages<M: Memory>(
 
 /// The two-stage walk of an access: the frame, the word in it and the leaves, or the whole fault.
 pub fn translate<M: Memory>(memory: &M, roots: Roots, access: Access) -> Result<Translation, Fault>
-    ensures { λ r. ⌜ r ≡ translateOf (worldOf (words (now (memory .entry))) roots) access ⌝ }
+    ensures answer { λ r. ⌜ r ≡ translateOf (worldOf (words (now (memory .entry))) roots) access ⌝ }
+    ensures granted { λ r. ⌜ ((t : Translation) → (r ≡ Ok t) ↔ Granted (worldOf (words (now (memory .entry))) roots) access t) ⌝ }
 {
     match two_stages(memory, roots, access) {
         Ok(translation) => Ok(translation),
