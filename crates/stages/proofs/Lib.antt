@@ -1,1 +1,1 @@
-mod Grants
+pub mod Grants

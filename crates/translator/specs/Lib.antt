@@ -1,0 +1,5 @@
+pub mod Grants
+pub mod Truth
+pub mod Fences
+pub mod Rules
+pub mod Walked
