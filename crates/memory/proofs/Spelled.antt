@@ -1,8 +1,8 @@
 -- Words as they lie in bytes.
 use mathlib.Core.Path.{_≡_, refl, sym, ap, _∙_}
 use mathlib.Core.List.{List, [], _∷_}
-use mathlib.Core.Logic.{_⊎_, inl, inr}
-use Prim.Native.Nat.{ℕ, suc, zero, _+_, _-_, _*_, _/_, _%_, _<_, _≤_, _^_}
+use mathlib.Core.Logic.{inl, inr}
+use Prim.Native.Nat.{ℕ, suc, zero, _+_, _*_, _/_, _%_, _<_, _≤_, _^_}
 use native.Mathlib.Omega.{arith}
 use borrow.Author.Needs.{needs}
 use borrow.Rule.Slice.PartMut.{putMid}
@@ -15,7 +15,7 @@ use Rattle.std.proofs.shelf.Parts.{take-putMid-below, drop-putMid}
 use Rattle.std.proofs.shelf.Counted.{length-map-counting, getD-map-counting, fill-by-all}
 use Rattle.memory.specs.Words.{readOf, writeOf, shownLength, shown}
 use Rattle.memory.specs.Bytes.{littleEndian, wordAt, wordsOf, shownWords, unshownBytes}
-use Rattle.memory.proofs.Shown.{read-in, written-in, shown-set}
+use Rattle.memory.proofs.Shown.{read-in, write-in, shown-set}
 
 -- the number from the byte at k on
 from-byte : (bs : List ℕ) (k : ℕ) → littleEndian (drop k bs) ≡ getD bs k 0 + 256 * littleEndian (drop (suc k) bs)
@@ -33,7 +33,7 @@ eight-spell bs long =
     omega (arith, from-byte bs 0, from-byte bs 1, from-byte bs 2, from-byte bs 3, from-byte bs 4, from-byte bs 5, from-byte bs 6, from-byte bs 7)
 
 -- the bytes of a word, the lowest first
-abbrev pub digits : ℕ → List ℕ
+abbrev digits : ℕ → List ℕ
 digits w = (w % 256) ∷ (w / 256 % 256) ∷ (w / 65536 % 256) ∷ (w / 16777216 % 256) ∷ (w / 4294967296 % 256) ∷ (w / 1099511627776 % 256) ∷ (w / 281474976710656 % 256) ∷ (w / 72057594037927936 % 256) ∷ []
 
 digits-spell : (w : ℕ) → w < 2 ^ 64 → littleEndian (digits w) ≡ w
@@ -44,14 +44,14 @@ module _ (bs : List ℕ) where
   pub length-words : length (wordsOf bs) ≡ length bs / 8
   length-words = length-map-counting (wordAt bs) 0 (length bs / 8)
 
-  pub word-is : (i : ℕ) → i < length bs / 8 → getD (wordsOf bs) i 0 ≡ wordAt bs i
+  word-is : (i : ℕ) → i < length bs / 8 → getD (wordsOf bs) i 0 ≡ wordAt bs i
   word-is i h = getD-map-counting (wordAt bs) 0 (length bs / 8) i i 0 h (omega arith)
 
   pub read-bytes : (i : ℕ) → i < shownLength (length bs / 8) → readOf (shownWords bs) i ≡ Ok (wordAt bs i)
   read-bytes i h = read-in (wordsOf bs) i (simp length-map-counting h) ∙ ap Ok (word-is i (omega arith))
 
   pub write-bytes : (i : ℕ) → i < shownLength (length bs / 8) → writeOf (shownWords bs) i ≡ Ok tt
-  write-bytes i h = written-in (wordsOf bs) i (simp length-map-counting h)
+  write-bytes i h = write-in (wordsOf bs) i (simp length-map-counting h)
 
 -- n elements put from `start` on: the part there, and any n elements apart from it
 module _ (xs new : List ℕ) (start n : ℕ) (long : length new ≡ n) (within : start + n ≤ length xs) where

@@ -19,16 +19,6 @@ pub struct Bytes<'a> {
     pub bytes: &'a mut [u8],
 }
 
-// The word that begins at a byte.
-fn word_at(bytes: &[u8], index: usize) -> u64
-    requires { ⌜ 8 * index + 8 ≤ length (now bytes) ⌝ }
-    ensures { λ r. ⌜ r ≡ wordAt (now (bytes .entry)) index ⌝ }
-{
-    let start = WORD_BYTES * index;
-    let part = &bytes[start..start + WORD_BYTES];
-    u64::from_le_bytes(*part.first_chunk::<8>().unwrap())
-}
-
 pub impl Memory for Bytes<'_> as BytesMemory {
     ghost words = { λ s. shownWords (now (s .bytes)) };
 
@@ -37,25 +27,54 @@ pub impl Memory for Bytes<'_> as BytesMemory {
     ghost lenders = { λ s. name (s .bytes) ∷ [] };
 
     fn frames(&self) -> u64 {
-        shown_frames(self.bytes.len() / WORD_BYTES)
+        self.bytes.frames()
     }
 
     fn read(&self, index: u64) -> Result<u64, Outside> {
-        if index < shown_words(self.bytes.len() / WORD_BYTES) {
-            Ok(word_at(self.bytes, index as usize))
+        self.bytes.read(index)
+    }
+
+    fn write(&mut self, index: u64, word: u64) -> Result<(), Outside> {
+        self.bytes.write(index, word)
+    }
+}
+
+// A lent slice is the same memory. Two slices that are joined as they are come back to their lenders with what they hold.
+pub impl Memory for &mut [u8] as ByteSliceMemory {
+    ghost words = { λ s. shownWords (now s) };
+
+    ghost rest = { λ s. unshownBytes (now s) };
+
+    ghost lenders = { λ s. name s ∷ [] };
+
+    fn frames(&self) -> u64 {
+        shown_frames(self.len() / WORD_BYTES)
+    }
+
+    fn read(&self, index: u64) -> Result<u64, Outside> {
+        if index < shown_words(self.len() / WORD_BYTES) {
+            Ok(word_at(self, index as usize))
         } else {
             Err(Outside)
         }
     }
 
     fn write(&mut self, index: u64, word: u64) -> Result<(), Outside> {
-        if index < shown_words(self.bytes.len() / WORD_BYTES) {
-            let start = WORD_BYTES * index as usize;
-            self.bytes[start..start + WORD_BYTES]
-                .copy_from_slice(&word.to_le_bytes());
-            Ok(())
-        } else {
-            Err(Outside)
+        if index >= shown_words(self.len() / WORD_BYTES) {
+            return Err(Outside);
         }
+        let start = WORD_BYTES * index as usize;
+        self[start..start + WORD_BYTES].copy_from_slice(&word.to_le_bytes());
+        Ok(())
     }
+}
+
+// The word at an index: eight bytes, the lowest first.
+fn word_at(bytes: &[u8], index: usize) -> u64
+    requires { ⌜ 8 * index + 8 ≤ length (now bytes) ⌝ }
+    ensures { λ r. ⌜ r ≡ wordAt (now (bytes .entry)) index ⌝ }
+{
+    let start = WORD_BYTES * index;
+    let part = &bytes[start..start + WORD_BYTES];
+    u64::from_le_bytes(*part.first_chunk::<8>().unwrap())
 }

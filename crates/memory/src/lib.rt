@@ -11,11 +11,13 @@ mod joined;
 mod lent;
 mod words;
 
+pub use bytes::ByteSliceMemory;
 pub use bytes::Bytes;
 pub use bytes::BytesMemory;
 pub use joined::Joined;
 pub use joined::JoinedMemory;
 pub use lent::LentMemory;
+pub use words::WordSliceMemory;
 pub use words::Words;
 pub use words::WordsMemory;
 

@@ -21,23 +21,43 @@ pub impl Memory for Words<'_> as WordsMemory {
     ghost lenders = { λ s. name (s .words) ∷ [] };
 
     fn frames(&self) -> u64 {
-        shown_frames(self.words.len())
+        self.words.frames()
     }
 
     fn read(&self, index: u64) -> Result<u64, Outside> {
-        if index < shown_words(self.words.len()) {
-            Ok(self.words[index as usize])
+        self.words.read(index)
+    }
+
+    fn write(&mut self, index: u64, word: u64) -> Result<(), Outside> {
+        self.words.write(index, word)
+    }
+}
+
+// A lent slice is the same memory. Two slices that are joined as they are come back to their lenders with what they hold.
+pub impl Memory for &mut [u64] as WordSliceMemory {
+    ghost words = { λ s. shown (now s) };
+
+    ghost rest = { λ s. unshown (now s) };
+
+    ghost lenders = { λ s. name s ∷ [] };
+
+    fn frames(&self) -> u64 {
+        shown_frames(self.len())
+    }
+
+    fn read(&self, index: u64) -> Result<u64, Outside> {
+        if index < shown_words(self.len()) {
+            Ok(self[index as usize])
         } else {
             Err(Outside)
         }
     }
 
     fn write(&mut self, index: u64, word: u64) -> Result<(), Outside> {
-        if index < shown_words(self.words.len()) {
-            self.words[index as usize] = word;
-            Ok(())
-        } else {
-            Err(Outside)
+        if index >= shown_words(self.len()) {
+            return Err(Outside);
         }
+        self[index as usize] = word;
+        Ok(())
     }
 }

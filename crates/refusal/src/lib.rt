@@ -9,6 +9,14 @@ pub enum Refusal {
     GuestRoot,
     /// The host root register breaks its layout.
     HostRoot,
+    /// The host address is not a multiple of 8, or lies outside the memory.
+    HostAddress,
+    /// The call belongs to the other side.
+    OtherSide,
+    /// The ASID of the fence is over 15.
+    FenceAsid,
+    /// The call could not be read.
+    Unreadable,
 }
 
 impl Refusal {
@@ -19,6 +27,10 @@ impl Refusal {
         match self {
             Refusal::GuestRoot => 3,
             Refusal::HostRoot => 4,
+            Refusal::HostAddress => 5,
+            Refusal::OtherSide => 6,
+            Refusal::FenceAsid => 7,
+            Refusal::Unreadable => 8,
         }
     }
 }

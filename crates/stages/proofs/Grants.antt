@@ -68,8 +68,7 @@ module _ (w : World) (a : Access) where
       let c = cond-ok (isInside (w .words) (t .0 .frame)) (t .0) at _ (t .2) in
       let u = then-ok (hostPath (w .words) (w .host) p) (judged (hostAllows (a .kind)) host.Denied) (t .0) (t .1) in
       let j = judged-ok (hostAllows (a .kind)) host.Denied (u .0) (t .0) (u .0 .leaf) (u .2) in
-      let same : u .0 ≡ at = j .1 ∙ c .1 in
-      (
+      let same : u .0 ≡ at = j .1 ∙ c .1 in (
         subst (λ (l : Landing). hostPath (w .words) (w .host) p ≡ Ok l) same (u .1),
         subst (λ (l : Landing). passes (hostAllows (a .kind)) (l .leaf) ≡ true) same (j .0),
         subst (λ (l : Landing). isInside (w .words) (l .frame) ≡ true) (c .1) (c .0),
@@ -90,13 +89,13 @@ module _ (w : World) (a : Access) where
       let g = guest-back (s .0) (s .1) in
       let h = host-back (s .0 .frame) (r .0) (r .1) in
       let built : Granted w a (translation a (s .0) (r .0)) =
-        record {
-          aligned = b .0;
-          path = record { middle = s .0 .frame; first = g .0; second = h .0; inside = h .2 };
-          guest = g .1;
-          host = h .1;
-          word = refl;
-        } in
+      record {
+        aligned = b .0;
+        path = record { middle = s .0 .frame; first = g .0; second = h .0; inside = h .2 };
+        guest = g .1;
+        host = h .1;
+        word = refl;
+      } in
       subst (Granted w a) (ap (translation a (s .0)) (r .2) ∙ (f .2 ∙ m .2)) built
 
   forth : (t : Translation) → Granted w a t → translateOf w a ≡ Ok t

@@ -5,4 +5,5 @@ pub mod Rights
 pub mod Host
 pub mod Stages
 pub mod Paths
+pub mod Laws
 pub mod Numbers

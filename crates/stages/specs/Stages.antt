@@ -15,7 +15,6 @@ use Rattle.stages.specs.declared.faults.Fault.{Fault}
 use Rattle.stages.specs.declared.landings.Landing.{Landing}
 use Rattle.stages.specs.declared.outcomes.Translation.{Translation}
 use Rattle.stages.specs.declared.roots.Roots.{Roots}
-
 use Rattle.stages.specs.Accesses.{pageOf, wordOf, isAligned}
 use Rattle.stages.specs.Registers.{isPaged, rootOf}
 use Rattle.stages.specs.Rights.{guestAllows}

@@ -104,3 +104,15 @@ impl HostRoot {
         table_of(self.register, RootIndex::Eleven)
     }
 }
+
+impl Roots {
+    /// Both roots Bare: registers of 0.
+    pub fn bare() -> Roots
+        ensures { λ r. ⌜ (r .guest .register ≡ 0) × (r .host .register ≡ 0) ⌝ }
+    {
+        Roots {
+            guest: GuestRoot { register: 0 },
+            host: HostRoot { register: 0 },
+        }
+    }
+}

@@ -57,7 +57,9 @@ fn guest_stage<M: Memory>(memory: &M, roots: Roots, access: Access) -> Result<La
 {
     let at = guest_path(memory, roots, Page::of(access.address))?;
     match at.leaf {
-        Some(leaf) if !access.guest_allows(leaf.entry) => Err(GuestFault::Denied { level: leaf.level }),
+        Some(leaf) if !access.guest_allows(leaf.entry) => Err(GuestFault::Denied {
+            level: leaf.level,
+        }),
         _ => Ok(at),
     }
 }

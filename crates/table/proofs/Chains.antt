@@ -30,15 +30,15 @@ module _ {F : Type 0} (reads : ℕ → Result ℕ F) (top wide root p : ℕ) whe
 
   ends-on : (level f : ℕ) (g : Bool) → Reached reads top wide root p level f g
       → ((w : ℕ) → reads (wordOf top wide p level f) ≡ Ok w → stops level w ≡ false → isPointer w ≡ true
-          → Ends (walkFrom reads top wide p level (frameOf w) (g || isGlobal w)))
+      → Ends (walkFrom reads top wide p level (frameOf w) (g || isGlobal w)))
       → (q : Result ℕ F) → reads (wordOf top wide p level f) ≡ q → Ends (onWord reads top wide p level g (walkFrom reads top wide p level) q)
   ends-on level f g t lower (Err e) r = record { table = f; met = g; reached = t; lacks = r }
   ends-on level f g t lower (Ok w) r =
       cond-both (stops level w) _ _ Ends
       (λ s. record { table = f; met = g; word = w; reached = t; entry = r; stopped = s })
       (λ s. cond-both (isPointer w) _ _ Ends
-        (λ q. lower w r s q)
-        (λ q. record { table = f; met = g; reached = t; entry = r; stands = s; isLeaf = q; frame = refl; global = refl }))
+      (λ q. lower w r s q)
+      (λ q. record { table = f; met = g; reached = t; entry = r; stands = s; isLeaf = q; frame = refl; global = refl }))
 
   ends-from : (level f : ℕ) (g : Bool) → Reached reads top wide root p level f g → Ends (walkFrom reads top wide p (suc level) f g)
   unfolding walkFrom

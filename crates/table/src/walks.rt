@@ -17,7 +17,7 @@ use crate::entries::EntryPartialEq;
 use crate::frames::Frame;
 use crate::pages::Page;
 
-// Where a walk ends well: the frame of the page, the level of the leaf, its entry, and whether an entry on the way, the leaf included, was global.
+/// Where a walk ends well: the frame of the page, the level of the leaf, its entry, and whether an entry on the way, the leaf included, was global.
 #[derive(Clone, Copy, PartialEq, Eq, Debug)]
 pub struct Leaf {
     pub frame: u64,
@@ -26,21 +26,21 @@ pub struct Leaf {
     pub global: bool,
 }
 
-// Where a walk ends with a fault, and at which level: the source did not give a word, or the entry stopped it.
+/// Where a walk ends with a fault, and at which level: the source did not give a word, or the entry stopped it.
 #[derive(Clone, Copy, PartialEq, Eq, Debug)]
 pub enum WalkFault<F> {
     Source { level: u8, fault: F },
     Stopped { level: u8 },
 }
 
-// How many bits the index in the first table has: nine, or two more, so that the table fills four frames.
+/// How many bits the index in the first table has: nine, or two more, so that the table fills four frames.
 #[derive(Clone, Copy)]
 pub enum RootIndex {
     Nine,
     Eleven,
 }
 
-// A table to walk, by the frame and the level of its first table; the number of levels is one more.
+/// A table to walk, by the frame and the level of its first table; the number of levels is one more.
 #[derive(Clone, Copy)]
 pub struct Table {
     pub root: Frame,
@@ -49,7 +49,7 @@ pub struct Table {
 }
 
 impl RootIndex {
-    // The number of bits.
+    /// The number of bits.
     pub fn bits(self) -> u32
         ensures { λ r. ⌜ r ≡ bitsOf self ⌝ }
     {
@@ -60,14 +60,14 @@ impl RootIndex {
     }
 }
 
-// Where a walk reads its table words.
+/// Where a walk reads its table words.
 pub trait TableSource {
     type Fault;
 
     // What a read of the word at each index answers.
     ghost reads: { Self → ℕ → Result ℕ Self·Fault };
 
-    // The word at `index` of the table at `frame`, whose own words and those of the three frames after it are counted on.
+    /// The word at `index` of the table at `frame`; an index of 512 and more reaches into the frames after it.
     fn read(&self, frame: Frame, index: u16) -> Result<u64, Self::Fault>
         ensures { λ r. ⌜ r ≡ reads (now (self .entry)) (frame .number * 512 + index) ⌝ };
 }
@@ -76,7 +76,11 @@ pub trait TableSource {
 fn index(table: Table, page: Page, level: u8) -> u16
     ensures { λ r. ⌜ r ≡ indexOf (table .top) (bitsOf (table .index)) (page .number) level ⌝ }
 {
-    let count = if level == table.top { table.index.bits() } else { 9 };
+    let count = if level == table.top {
+        table.index.bits()
+    } else {
+        9
+    };
     field(page.number, 9 * level as u32, count) as u16
 }
 
@@ -123,7 +127,7 @@ fn descend<S: TableSource>(
     }
 }
 
-// The walk of `table` for `page`: a leaf exactly if a chain of entries leads there from the root, a fault at a level exactly if the chain ends there.
+/// The walk of `table` for `page`: a leaf exactly if a chain of entries leads there from the root, a fault at a level exactly if the chain ends there.
 pub fn walk<S: TableSource>(
     source: &S,
     table: Table,

@@ -1,3 +1,4 @@
 pub mod Firsts
+pub mod Books
 pub mod Truths
 pub mod Walks

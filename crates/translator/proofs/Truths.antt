@@ -52,12 +52,12 @@ true-gives w g a t al p h =
     let give = and-parts (gives (a .kind) (n .guest .entry .word)) (passes (hostAllows (a .kind)) (n .host)) both in
     let to : Translation = record { frame = g .frame; word = wordOf a; guest = Some (n .guest); host = n .host } in
     let ok : Granted w a to =
-      record {
-        aligned = al;
-        path = subst (λ (q : ℕ). Path w q (Some (n .guest)) (n .host) (g .frame)) p (n .path);
-        guest = and-from (userAllows a (isUser (n .guest .entry .word))) (gives (a .kind) (n .guest .entry .word) || mxrGives (a .kind) (a .mxr) (n .guest .entry .word))
+    record {
+      aligned = al;
+      path = subst (λ (q : ℕ). Path w q (Some (n .guest)) (n .host) (g .frame)) p (n .path);
+      guest = and-from (userAllows a (isUser (n .guest .entry .word))) (gives (a .kind) (n .guest .entry .word) || mxrGives (a .kind) (a .mxr) (n .guest .entry .word))
           (ap (userAllows a) (sym (n .user)) ∙ parts .1) (or-left (gives (a .kind) (n .guest .entry .word)) (mxrGives (a .kind) (a .mxr) (n .guest .entry .word)) (give .0));
-        host = give .1;
-        word = refl;
-      } in
+      host = give .1;
+      word = refl;
+    } in
     ap (mapped (λ x. x .frame) (λ e. e)) (granted w a to .1 ok)

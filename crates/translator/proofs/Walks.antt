@@ -57,23 +57,22 @@ module _ (w : World) (a : Access) (t : Translation) (e : translateOf w a ≡ Ok 
 
   made-by : (o : Option Leaf) → t .guest ≡ o → Given (grantBy (asidOf (w .guest)) a t o) (λ g. (g .page ≡ pageOf a) × Fullest w g)
   made-by None h = tt
-  made-by (Some leaf) h =
-      (
-        refl,
-        record {
-          named =
-            record {
-              guest = leaf;
-              host = t .host;
-              paged = leaf-paged leaf h;
-              asid = refl;
-              path = subst (λ (o : Option Leaf). Path w (pageOf a) o (t .host) (t .frame)) h (granted w a t .0 e .path);
-              user = refl;
-            };
-          rights = has-rights leaf;
-          global = refl;
-        },
-      )
+  made-by (Some leaf) h = (
+    refl,
+    record {
+      named =
+          record {
+            guest = leaf;
+            host = t .host;
+            paged = leaf-paged leaf h;
+            asid = refl;
+            path = subst (λ (o : Option Leaf). Path w (pageOf a) o (t .host) (t .frame)) h (granted w a t .0 e .path);
+            user = refl;
+          };
+      rights = has-rights leaf;
+      global = refl;
+    },
+  )
 
   -- after a walk that grants, the grant made of it is the fullest true one of the page
   pub made-fullest : Given (grantOf (asidOf (w .guest)) a t) (λ g. (g .page ≡ pageOf a) × Fullest w g)
@@ -87,6 +86,10 @@ reply-outcome : (asid : ℕ) (a : Access) (q : Result Translation Fault) → rep
 reply-outcome asid a (Ok t) = refl
 reply-outcome asid a (Err f) = refl
 
+-- the walk's own reply goes where the walk goes
+pub walked-to : (w : World) (a : Access) → walkedReply w a .outcome ≡ walkedTo w a
+walked-to w a = reply-outcome (asidOf (w .guest)) a (translateOf w a)
+
 module _ (book : List Grant) (w : World) (a : Access) where
   pub walked-bare : isPaged (w .guest) ≡ false → walkedReply w a .grant ≡ None
   walked-bare b = bare-on (translateOf w a) refl
@@ -97,7 +100,7 @@ module _ (book : List Grant) (w : World) (a : Access) where
 
   module _ (none : answering w a book ≡ None) where
     pub walked-outcome : walkedReply w a .outcome ≡ outcomeOf book w a
-    walked-outcome = reply-outcome (asidOf (w .guest)) a (translateOf w a) ∙ ap (λ o. orWalk o (walkedTo w a)) (sym none)
+    walked-outcome = walked-to w a ∙ ap (λ o. orWalk o (walkedTo w a)) (sym none)
 
     handed-on : (q : Result Translation Fault) → translateOf w a ≡ q
         → Given (replyOf (asidOf (w .guest)) a q .grant) (λ g. Has book g ⊎ Fresh book w a g)

@@ -1,0 +1,6 @@
+pub mod Moments
+pub mod Plain
+pub mod Asks
+pub mod Settled
+pub mod Runs
+pub mod Theorem

@@ -1,0 +1,4 @@
+pub mod Places
+pub mod Standing
+pub mod Books
+pub mod Laws
