@@ -6,6 +6,7 @@ ghost use lib.ListN.{getD, set};
 ghost use denote.Ref.{now};
 ghost use Rattle.stages.specs.declared.accesses.Kind.the-variants.{Load, Store, Fetch};
 ghost use Rattle.stages.specs.Stages.{worldOf};
+ghost use Rattle.translator.specs.declared.replies.Reply.{Reply};
 ghost use Rattle.calls.specs.declared.GuestCall.the-variants as guestCall;
 ghost use Rattle.calls.specs.Targets.{accessOf};
 ghost use Rattle.history.specs.Plain.{placeOf, onGuest, isFenceAsid};
@@ -40,6 +41,18 @@ fn word_at<M: Memory>(memory: &M, access: Access, frame: u16) -> u64
     memory.read(place(access, frame)).unwrap_or(0)
 }
 
+// One access of the translator: the frame that it answers, or the whole fault.
+fn reach<M: Memory, T: Translator>(
+    memory: &M,
+    translator: &mut T,
+    roots: Roots,
+    access: Access,
+) -> Result<u16, Fault>
+    ensures { λ o. ⌜ ((r : Reply) × T·Translator .answers (now (translator .entry)) (worldOf (M·Memory .words (now (memory .entry))) roots) access r (now (translator .exit)) × (o ≡ r .outcome)) ⌝ }
+{
+    translator.access(memory, roots, access).outcome
+}
+
 // Whether the ASID of a fence is all, or at most 15.
 fn is_fence_asid(asid: Option<u16>) -> bool
     ensures { λ r. ⌜ r ≡ isFenceAsid asid ⌝ }
@@ -61,8 +74,7 @@ impl GuestSide {
         ensures { λ r. ⌜ Reached (T·Translator .answers) (T·Translator .forgets) (T·Translator .clears) (guestMoment (M·Memory .words (now (memory .entry))) (now (self .entry) .roots)) (now (translator .entry)) (accessOf Load target) 0 (wordOrFault r) (guestMoment (M·Memory .words (now (memory .entry))) (now (self .entry) .roots)) (now (translator .exit)) ⌝ }
     {
         let access = target.access(Kind::Load);
-        let reply = translator.access(memory, self.roots, access);
-        match reply.outcome {
+        match reach(memory, translator, self.roots, access) {
             Ok(frame) => Ok(word_at(memory, access, frame)),
             Err(fault) => Err(fault),
         }
@@ -78,8 +90,7 @@ impl GuestSide {
         ensures { λ r. ⌜ Reached (T·Translator .answers) (T·Translator .forgets) (T·Translator .clears) (guestMoment (M·Memory .words (now (memory .entry))) (now (self .entry) .roots)) (now (translator .entry)) (accessOf Fetch target) 0 (wordOrFault r) (guestMoment (M·Memory .words (now (memory .entry))) (now (self .entry) .roots)) (now (translator .exit)) ⌝ }
     {
         let access = target.access(Kind::Fetch);
-        let reply = translator.access(memory, self.roots, access);
-        match reply.outcome {
+        match reach(memory, translator, self.roots, access) {
             Ok(frame) => Ok(word_at(memory, access, frame)),
             Err(fault) => Err(fault),
         }
@@ -98,8 +109,7 @@ impl GuestSide {
         ensures lenders_kept { λ _. ⌜ M·Memory .lenders (now (memory .exit)) ≡ M·Memory .lenders (now (memory .entry)) ⌝ }
     {
         let access = target.access(Kind::Store);
-        let reply = translator.access(memory, self.roots, access);
-        match reply.outcome {
+        match reach(memory, translator, self.roots, access) {
             Ok(frame) => {
                 let _ = memory.write(place(access, frame), data);
                 Ok(())

@@ -19,7 +19,7 @@ pub loop-call-holds : need.loop-call-holds
 loop-call-holds g c =
     let m = c .in-Continue-answers .ensures tt .made in
     let none = ran-none (g .T·Translator .answers) (g .T·Translator .forgets) (g .T·Translator .clears)
-      (hostMoment (g .M·Memory .words (c .args .memory .now)) (c .new .result .roots)) (c .new .last .translator) in
+    (hostMoment (g .M·Memory .words (c .args .memory .now)) (c .new .result .roots)) (c .new .last .translator) in
     (m .1 .0, refl, refl, refl, simp (m .0) none)
 
 pub loop-call-again : need.loop-call-again
@@ -29,13 +29,12 @@ loop-call-again g c =
     let e = c .call-next .ensures in
     let below : c .loop-call .call-index < length (c .args .calls .now) = omega arith in
     let r = ran-push (g .T·Translator .answers) (g .T·Translator .forgets) (g .T·Translator .clears)
-      (hostMoment (g .M·Memory .words (c .args .memory .now)) (c .new .result .roots)) (c .new .last .translator)
-      (take (c .loop-call .call-index) (c .args .calls .now)) (vec-items (c .loop-call .answers))
-      (momentOf (g .M·Memory .words (c .loop-call .memory)) (c .loop-call .machine)) (c .loop-call .translator)
-      (getD (c .args .calls .now) (c .loop-call .call-index) (Host (Load 0))) (c .call-next .result .1)
-      (momentOf (g .M·Memory .words (c .call-next .last .memory)) (c .call-next .result .0)) (c .call-next .last .translator)
-      (i .4) (e .stepped) in
-    (
+    (hostMoment (g .M·Memory .words (c .args .memory .now)) (c .new .result .roots)) (c .new .last .translator)
+    (take (c .loop-call .call-index) (c .args .calls .now)) (vec-items (c .loop-call .answers))
+    (momentOf (g .M·Memory .words (c .loop-call .memory)) (c .loop-call .machine)) (c .loop-call .translator)
+    (getD (c .args .calls .now) (c .loop-call .call-index) (Host (Load 0))) (c .call-next .result .1)
+    (momentOf (g .M·Memory .words (c .call-next .last .memory)) (c .call-next .result .0)) (c .call-next .last .translator)
+    (i .4) (e .stepped) in (
       omega arith,
       cc,
       e .rest-kept ∙ i .2,
@@ -53,9 +52,9 @@ returns g c =
     let done : length cs ≤ c .loop-call .call-index = omega arith in
     let ran = simp (take-all (c .loop-call .call-index) cs done, c .new .ensures .made ws) at (i .4) in
     let played : Played (g .T·Translator .answers) (g .T·Translator .forgets) (g .T·Translator .clears) (start ws) (c .args .translator .now) cs xs end (c .loop-call .translator) =
-      (c .new .last .translator, c .new .ensures .fenced, ran) in
+    (c .new .last .translator, c .new .ensures .fenced, ran) in
     let both : Faithful (start ws) cs xs end × (AllSettled (plainAt (start ws) cs) cs → Agrees (start ws) cs xs end) =
-      runs-agree (g .T·Translator .book) (g .T·Translator .answers) (g .T·Translator .forgets) (g .T·Translator .clears)
-      (g .T·Translator·met .answered) (g .T·Translator·met .fenced) (g .T·Translator·met .cleared)
-      (start ws) (c .args .translator .now) cs xs end (c .loop-call .translator) played in
+    runs-agree (g .T·Translator .book) (g .T·Translator .answers) (g .T·Translator .forgets) (g .T·Translator .clears)
+    (g .T·Translator·met .answered) (g .T·Translator·met .fenced) (g .T·Translator·met .cleared)
+    (start ws) (c .args .translator .now) cs xs end (c .loop-call .translator) played in
     record { played = played; agrees = both .1; faithful = both .0; unchanged = tt; rest-kept = i .2; lenders-kept = i .3 }
