@@ -1,8 +1,12 @@
 pub mod Places
 pub mod Traces
 pub mod Reaches
+pub mod Covering
 pub mod Origins
 pub mod Soundness
 pub mod Agreement
 pub mod Pushed
 pub mod Theorem
+pub mod Bearing
+pub mod Fullests
+pub mod Consequences

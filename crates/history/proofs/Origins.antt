@@ -1,16 +1,15 @@
 -- Where the grants of a book come from: each is true at an earlier moment, with no covering fence since.
 use mathlib.Core.Path.{_≡_, refl, sym, ap, subst, _∙_}
-use mathlib.Core.Bool.{Bool, true, false, cond, not, _&&_, _||_}
+use mathlib.Core.Bool.{Bool, true, false, _||_}
 use mathlib.Core.List.{List, [], _∷_}
 use mathlib.Core.Logic.{_⊎_, inl, inr, ⊎-elim}
 use Prim.Native.Nat.{ℕ, suc, _≤_, _<_}
 use native.Mathlib.Omega.{arith}
 use lib.Dec.{eqb}
-use Rattle.std.specs.declared.option.Option.{Option}
 use Rattle.std.specs.declared.option.Option.the-variants.{Some, None}
 use Rattle.std.specs.Finite.{nth}
 use Rattle.std.specs.shelf.Lists.{All}
-use Rattle.std.proofs.shelf.Tests.{cases-lt, and-parts, or-cases, eqb-true}
+use Rattle.std.proofs.shelf.Tests.{cases-lt, cases-bool, both-ways, and-parts, or-cases, eqb-true}
 use Rattle.stages.specs.declared.accesses.Access.{Access}
 use Rattle.stages.specs.Accesses.{pageOf, isAligned}
 use Rattle.stages.specs.Registers.{isPaged, asidOf}
@@ -18,12 +17,14 @@ use Rattle.stages.specs.Stages.{World}
 use Rattle.translator.specs.declared.grants.Grant.{Grant}
 use Rattle.translator.specs.declared.fences.Fence.{Fence}
 use Rattle.translator.specs.Grants.{matches, allows, serves, firstOf, consults, answering}
-use Rattle.translator.specs.Truth.{True, isGlobalWalk}
-use Rattle.translator.specs.Fences.{coversPage, coversAsid, covers, coversGrant}
+use Rattle.translator.specs.Truth.{True}
+use Rattle.translator.specs.Fences.{covers, coversGrant}
 use Rattle.translator.proofs.Truths.{true-paged, true-asid, true-global, true-gives}
 use Rattle.calls.specs.declared.Call.{Call}
 use Rattle.history.specs.Moments.{Moment}
 use Rattle.history.specs.Settled.{globalAt, Covers, Bears, Gives, CoveredFrom}
+use Rattle.history.specs.Vocabulary.{OfAsid}
+use Rattle.history.proofs.Covering.{covers-exactly}
 
 module _ (at : ℕ → Moment) (cs : List Call) where
   -- the grant is true at a moment before k, with no covering fence since
@@ -57,25 +58,20 @@ module _ (at : ℕ → Moment) (cs : List Call) where
   pub uncovered-now : (page k : ℕ) → CoveredFrom at cs page k k → ⊥
   uncovered-now page k v = let a = v .2 in let b = v .3 in omega arith
 
-fewer-global : (x y walk grant : Bool) → (grant ≡ true → walk ≡ true) → x && (y && not walk) ≡ true → x && (y && not grant) ≡ true
-fewer-global true true true true i e = e
-fewer-global true true true false i e = refl
-fewer-global true true false true i e = let z = i refl in cc
-fewer-global true true false false i e = refl
-fewer-global true false walk grant i e = e
-fewer-global false y walk grant i e = e
-
-covers-fewer : (address asid : Option ℕ) (k page : ℕ) (walk grant : Bool) → (grant ≡ true → walk ≡ true)
-    → coversPage address page && coversAsid asid k walk ≡ true → coversPage address page && coversAsid asid k grant ≡ true
-covers-fewer address None k page walk grant i e = e
-covers-fewer address (Some j) k page walk grant i e = fewer-global (coversPage address page) (eqb j k) walk grant i e
-
 -- a fence that covers the page as it was where a grant was true covers the grant
 pub covers-grant : (f : Fence) (o : Moment) (g : Grant) → True (o .world) g → covers f (asidOf (o .world .guest)) (g .page) (globalAt o (g .page)) ≡ true
     → coversGrant f g ≡ true
 covers-grant f o g t e =
-    let same : covers f (g .asid) (g .page) (globalAt o (g .page)) ≡ true = subst (λ k. covers f k (g .page) (globalAt o (g .page)) ≡ true) (sym (true-asid (o .world) g t)) e in
-    covers-fewer (f .address) (f .asid) (g .asid) (g .page) (globalAt o (g .page)) (g .global) (true-global (o .world) g t) same
+    let of = covers-exactly f (asidOf (o .world .guest)) (g .page) (globalAt o (g .page)) .0 e in
+    covers-exactly f (g .asid) (g .page) (g .global) .1 (of .0, of-grant (of .1))
+  where
+    -- a grant is not global where the walk is not
+    not-global : globalAt o (g .page) ≡ false → g .global ≡ false
+    not-global n = ⊎-elim (λ h. absurd (both-ways _ n (true-global (o .world) g t h))) (λ h. h) (cases-bool (g .global))
+
+    of-grant : OfAsid f (asidOf (o .world .guest)) (globalAt o (g .page)) → OfAsid f (g .asid) (g .global)
+    of-grant (inl all) = inl all
+    of-grant (inr h) = inr (h .0 ∙ ap Some (sym (true-asid (o .world) g t)), not-global (h .1))
 
 -- the first item that passes a test passes it, and what holds of all items holds of it
 first-of : {X : Type 0} (test : X → Bool) (P : X → Type 0) (xs : List X) (x : X) → All P xs → firstOf test xs ≡ Some x → P x × (test x ≡ true)
@@ -87,7 +83,7 @@ first-of test P (y ∷ ys) x all e = on (test y) refl (first-of test P ys x (all
     on true q later = let j = rw q at e in let i : y ≡ x = cc in (subst P i (all .0), subst (λ z. test z ≡ true) i q)
     on false q later = later (rw q at e)
 
--- a grant that answers an access: it is one of the book, and the access consults it
+-- what it means that a grant answers an access
 pub record Answering (w : World) (a : Access) (g : Grant) : Type 0 where
   pub aligned : isAligned a ≡ true
   pub paged : isPaged (w .guest) ≡ true
@@ -108,6 +104,7 @@ answering-by w a g e s =
       allowed = p .1;
     }
 
+-- the grant that answers is one of the book
 pub answering-is : (w : World) (a : Access) (P : Grant → Type 0) (book : List Grant) (g : Grant) → All P book → answering w a book ≡ Some g → P g × Answering w a g
 answering-is w a P book g all e = on (consults w a) refl
   where
@@ -118,7 +115,7 @@ answering-is w a P book g all e = on (consults w a) refl
         (r .0, answering-by w a g q (r .1))
     on false q = let f : None ≡ Some g = rw q at e in absurd (let z : _≡_ {A = ℕ} 0 1 = cc in omega arith)
 
--- the moment where an answering grant was true bears on the access, and gives it the grant's frame
+-- a moment where an answering grant was true bears on the access
 pub answering-bears : (o m : Moment) (a : Access) (g : Grant) → True (o .world) g → Answering (m .world) a g → Bears o m a
 answering-bears o m a g t s =
     record {
@@ -128,5 +125,6 @@ answering-bears o m a g t s =
           ⊎-elim (λ y. inr (subst (λ p. globalAt o p ≡ true) (s .page) (true-global (o .world) g t y))) (λ y. inl (sym (true-asid (o .world) g t) ∙ y)) (s .under);
     }
 
+-- and gives it the grant's frame
 pub answering-gives : (o m : Moment) (a : Access) (g : Grant) → True (o .world) g → Answering (m .world) a g → Gives o a (g .frame)
 answering-gives o m a g t s = true-gives (o .world) g a t (s .aligned) (s .page) (s .allowed)

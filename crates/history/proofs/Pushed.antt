@@ -1,5 +1,5 @@
 -- One call more at the end of a run.
-use mathlib.Core.Path.{_≡_, refl, sym, subst}
+use mathlib.Core.Path.{refl, sym, subst}
 use mathlib.Core.List.{List, [], _∷_, _++_}
 use Rattle.stages.specs.declared.accesses.Access.{Access}
 use Rattle.stages.specs.Stages.{World}

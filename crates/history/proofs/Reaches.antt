@@ -2,23 +2,18 @@
 use mathlib.Core.Path.{_≡_, refl, sym, ap, subst, _∙_}
 use mathlib.Core.Bool.{Bool, true, false, cond}
 use Prim.Native.Nat.{ℕ}
-use native.Mathlib.Omega.{arith}
 use Rattle.std.specs.declared.result.Result.{Result}
-use Rattle.std.specs.declared.result.Result.the-variants.{Ok, Err}
 use Rattle.stages.specs.declared.accesses.Access.{Access}
 use Rattle.stages.specs.declared.faults.Fault.{Fault}
 use Rattle.stages.specs.Stages.{World}
 use Rattle.translator.specs.declared.fences.Fence.{Fence}
 use Rattle.translator.specs.Rules.{walkedTo}
-use Rattle.calls.specs.declared.HostCall.{HostCall}
 use Rattle.calls.specs.declared.HostCall.the-variants as hostCall
-use Rattle.calls.specs.declared.GuestCall.{GuestCall}
 use Rattle.calls.specs.declared.GuestCall.the-variants as guestCall
 use Rattle.calls.specs.declared.Call.{Call}
 use Rattle.calls.specs.declared.Call.the-variants.{Host, Guest, Unreadable}
 use Rattle.calls.specs.declared.Answer.{Answer}
-use Rattle.calls.specs.declared.Answer.the-variants.{Done}
-use Rattle.history.specs.Moments.{Side, host, guest, Moment, guestAt}
+use Rattle.history.specs.Moments.{Side, host, guest, Moment}
 use Rattle.history.specs.Plain.{isFenceAsid, landed, plainAccess, plain, plainBy}
 use Rattle.history.specs.Asks.{Ask, nothing, reach, forget, clear, asksBy, asks}
 use Rattle.history.specs.Settled.{Plainly}

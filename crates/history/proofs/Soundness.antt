@@ -1,9 +1,9 @@
 -- Every run of a translator that keeps the rules is faithful.
 use mathlib.Core.Path.{_≡_, refl, sym, ap, subst, _∙_}
-use mathlib.Core.Bool.{Bool, true, false}
-use mathlib.Core.List.{List, [], _∷_}
+use mathlib.Core.Bool.{false}
+use mathlib.Core.List.{List, []}
 use mathlib.Core.Logic.{_⊎_, inl, inr, ⊎-elim}
-use Prim.Native.Nat.{ℕ, zero, suc, _≤_, _<_}
+use Prim.Native.Nat.{ℕ, zero, suc, _≤_}
 use native.Mathlib.Omega.{arith}
 use lib.ListN.{length}
 use Rattle.std.specs.declared.option.Option.{Option}
@@ -14,7 +14,6 @@ use Rattle.std.specs.shelf.Lists.{All, Has}
 use Rattle.std.proofs.shelf.Elements.{all-weaker, all-has}
 use Rattle.std.proofs.shelf.Tests.{both-ways}
 use Rattle.stages.specs.declared.accesses.Access.{Access}
-use Rattle.stages.specs.Accesses.{pageOf}
 use Rattle.stages.specs.Stages.{World}
 use Rattle.translator.specs.declared.grants.Grant.{Grant}
 use Rattle.translator.specs.declared.fences.Fence.{Fence}
@@ -33,7 +32,7 @@ use Rattle.history.specs.Runs.{Reached, StepBy, Played}
 use Rattle.history.proofs.Places.{nth-inside, nth-there}
 use Rattle.history.proofs.Traces.{Traced, traced}
 use Rattle.history.proofs.Reaches.{reach-plainly}
-use Rattle.history.proofs.Origins.{Known, known-on, uncovered-now, covers-grant, Answering, answering-is, answering-bears, answering-gives}
+use Rattle.history.proofs.Origins.{Known, known-on, uncovered-now, covers-grant, answering-is, answering-bears, answering-gives}
 
 module _ {S : Type 0} (book : S → List Grant) (answers : S → World → Access → Reply → S → Type 0) (forgets : S → Fence → S → Type 0) (clears : S → S → Type 0)
     (answered : (s t : S) (w : World) (a : Access) (r : Reply) → answers s w a r t → Answered (book s) w a r (book t))

@@ -1,7 +1,7 @@
 -- The agreement theorem.
-use mathlib.Core.Path.{_≡_, refl, sym, ap, subst, _∙_}
-use mathlib.Core.List.{List, [], _∷_}
-use Prim.Native.Nat.{ℕ, suc}
+use mathlib.Core.Path.{_≡_, refl, sym}
+use mathlib.Core.List.{List, []}
+use Prim.Native.Nat.{suc}
 use Rattle.stages.specs.declared.accesses.Access.{Access}
 use Rattle.stages.specs.Stages.{World}
 use Rattle.translator.specs.declared.grants.Grant.{Grant}

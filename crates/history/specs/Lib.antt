@@ -4,3 +4,5 @@ pub mod Asks
 pub mod Settled
 pub mod Runs
 pub mod Theorem
+pub mod Vocabulary
+pub mod Consequences

@@ -1,7 +1,6 @@
 -- The agreement theorem, of what one call does to a translator.
 use mathlib.Core.Path.{_≡_}
 use mathlib.Core.List.{List}
-use Prim.Native.Nat.{ℕ}
 use Rattle.stages.specs.declared.accesses.Access.{Access}
 use Rattle.stages.specs.Stages.{World}
 use Rattle.translator.specs.declared.fences.Fence.{Fence}
