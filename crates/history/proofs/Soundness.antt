@@ -27,7 +27,8 @@ use Rattle.calls.specs.declared.Answer.{Answer}
 use Rattle.history.specs.Moments.{Moment}
 use Rattle.history.specs.Plain.{landed}
 use Rattle.history.specs.Asks.{Ask, nothing, reach, forget, clear, asks}
-use Rattle.history.specs.Settled.{CoversBy, Covers, CoveredFrom, Plainly, Remembered, Faithful}
+use Rattle.history.specs.Settled.{CoversBy, Covers, CoveredFrom, Plainly, Remembered, AllServed}
+use Rattle.history.specs.Theorem.{FaithfulRun}
 use Rattle.history.specs.Runs.{Reached, StepBy, Played}
 use Rattle.history.proofs.Places.{nth-inside, nth-there}
 use Rattle.history.proofs.Traces.{Traced, traced}
@@ -100,7 +101,7 @@ module _ {S : Type 0} (book : S → List Grant) (answers : S → World → Acces
     served-by (forget f) s x t e step all = inl (step .0)
     served-by clear s x t e step all = inl (step .0)
 
-  module _ (m : Moment) (s : S) (cs : List Call) (xs : List Answer) (end : Moment) (empty : book s ≡ []) (run : Traced answers forgets clears m s cs xs end) where
+  module _ (m : Moment) (s : S) (cs : List Call) (xs : List Answer) (end : Moment) (t : S) (empty : book s ≡ []) (run : Traced answers forgets clears m s cs xs end t) where
     -- every grant in the book is known, at each moment of the run
     sound : (k : ℕ) → k ≤ length cs → All (Known (run .at) cs k) (book (run .state k))
     sound zero l = subst (All (Known (run .at) cs 0)) (sym (ap book (run .made) ∙ empty)) tt
@@ -111,18 +112,22 @@ module _ {S : Type 0} (book : S → List Grant) (answers : S → World → Acces
         sound-on (run .at) cs k (c .0) (c .1) (asks (run .at k) (c .0)) (run .state k) (x .0) (run .at (suc k)) (run .state (suc k)) refl
         (run .steps k (c .0) (x .0) (c .1) (x .1)) (sound k (omega arith))
 
-    pub faithful-from : Faithful m cs xs end
-    faithful-from =
+    served : AllServed (run .at) cs xs
+    served k c x e f =
+        let l = nth-inside cs k c e in
+        served-by (run .at) cs k c e (asks (run .at k) c) (run .state k) x (run .state (suc k)) refl (run .steps k c x e f) (sound k (omega arith))
+
+    pub faithful-from : (u : S) → clears u s → FaithfulRun answers forgets clears m u cs xs end t
+    faithful-from u h =
         record {
-          at = run .at;
-          first = run .first;
-          last = run .last;
-          many = run .many;
-          served = λ k c x e f.
-              let l = nth-inside cs k c e in
-              served-by (run .at) cs k c e (asks (run .at k) c) (run .state k) x (run .state (suc k)) refl (run .steps k c x e f) (sound k (omega arith));
+          moments = record { at = run .at; first = run .first; last = run .last; many = run .many; served = served };
+          state = run .state;
+          made = subst (clears u) (sym (run .made)) h;
+          left = run .left;
+          steps = run .steps;
         }
 
-  pub faithful : (m : Moment) (s : S) (cs : List Call) (xs : List Answer) (end : Moment) (t : S) → Played answers forgets clears m s cs xs end t → Faithful m cs xs end
+  pub faithful : (m : Moment) (s : S) (cs : List Call) (xs : List Answer) (end : Moment) (t : S) → Played answers forgets clears m s cs xs end t
+      → FaithfulRun answers forgets clears m s cs xs end t
   faithful m s cs xs end t r =
-      faithful-from m (r .0) cs xs end (cleared s (r .0) (r .1)) (traced answers forgets clears m (r .0) cs xs end t (r .2))
+      faithful-from m (r .0) cs xs end t (cleared s (r .0) (r .1)) (traced answers forgets clears m (r .0) cs xs end t (r .2)) s (r .1)

@@ -26,7 +26,7 @@ module _ {S : Type 0} (book : S → List Grant) (answers : S → World → Acces
   pub runs-agree : RunsAgree answers forgets clears
   runs-agree m s cs xs end t r =
       let f = faithful book answers forgets clears answered fenced cleared m s cs xs end t r in
-      (f, settled-agrees m cs xs end f)
+      (f, settled-agrees m cs xs end (f .moments))
 
 module _ {S : Type 0} (answers : S → World → Access → Reply → S → Type 0) (forgets : S → Fence → S → Type 0) (clears : S → S → Type 0) where
   walks-plainly : ((s t : S) (w : World) (a : Access) (r : Reply) → answers s w a r t → r .outcome ≡ walkedTo w a)

@@ -6,9 +6,9 @@ ghost use Rattle.std.specs.Of.Vec.{vec-items};
 ghost use Rattle.std.specs.Results.{Cases};
 ghost use Rattle.std.specs.Vec.{made};
 ghost use Rattle.history.specs.Moments.{start};
-ghost use Rattle.history.specs.Settled.{plainAt, AllSettled, Faithful};
+ghost use Rattle.history.specs.Settled.{plainAt, AllSettled};
 ghost use Rattle.history.specs.Runs.{Played};
-ghost use Rattle.history.specs.Theorem.{Agrees};
+ghost use Rattle.history.specs.Theorem.{Agrees, FaithfulRun};
 ghost use Rattle.machine.specs.Sides.{momentOf};
 use crate::machines::Machine;
 use crate::sides::HostSide;
@@ -42,7 +42,7 @@ pub fn run<M: Memory, T: Translator>(
 ) -> Result<Ended, AllocError>
     ensures played { λ r. ⌜ made r (λ e. Played (T·Translator .answers) (T·Translator .forgets) (T·Translator .clears) (start (M·Memory .words (now (memory .entry)))) (now (translator .entry)) (now (calls .entry)) (vec-items (e .answers)) (momentOf (M·Memory .words (now (memory .exit))) (e .machine)) (now (translator .exit))) ⌝ }
     ensures agrees { λ r. ⌜ (AllSettled (plainAt (start (M·Memory .words (now (memory .entry)))) (now (calls .entry))) (now (calls .entry)) → made r (λ e. Agrees (start (M·Memory .words (now (memory .entry)))) (now (calls .entry)) (vec-items (e .answers)) (momentOf (M·Memory .words (now (memory .exit))) (e .machine)))) ⌝ }
-    ensures faithful { λ r. ⌜ made r (λ e. Faithful (start (M·Memory .words (now (memory .entry)))) (now (calls .entry)) (vec-items (e .answers)) (momentOf (M·Memory .words (now (memory .exit))) (e .machine))) ⌝ }
+    ensures faithful { λ r. ⌜ made r (λ e. FaithfulRun (T·Translator .answers) (T·Translator .forgets) (T·Translator .clears) (start (M·Memory .words (now (memory .entry)))) (now (translator .entry)) (now (calls .entry)) (vec-items (e .answers)) (momentOf (M·Memory .words (now (memory .exit))) (e .machine)) (now (translator .exit))) ⌝ }
     ensures unchanged { λ r. ⌜ Cases r (λ _. Unit {0}) (λ _. (M·Memory .words (now (memory .exit)) ≡ M·Memory .words (now (memory .entry))) × (now (translator .exit) ≡ now (translator .entry))) ⌝ }
     ensures rest_kept { λ _. ⌜ M·Memory .rest (now (memory .exit)) ≡ M·Memory .rest (now (memory .entry)) ⌝ }
     ensures lenders_kept { λ _. ⌜ M·Memory .lenders (now (memory .exit)) ≡ M·Memory .lenders (now (memory .entry)) ⌝ }

@@ -45,7 +45,7 @@ isPointer w = not (isReadable w) && not (isExecutable w)
 abbrev pub isMarked : ℕ → Bool
 isMarked w = isUser w || (isAccessed w || isDirty w)
 
--- the low 9 × level bits of the frame number are not all 0, which a leaf must have
+-- the low 9 × level bits of the frame number are not all 0, as those of a leaf must be
 abbrev pub isMisaligned : ℕ → ℕ → Bool
 isMisaligned level w = not (eqb (frameOf w % 2 ^ (9 * level)) 0)
 

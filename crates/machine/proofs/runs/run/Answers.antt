@@ -7,9 +7,9 @@ use Rattle.std.proofs.shelf.Lists.{take-more, take-all}
 use Rattle.calls.specs.declared.Call.the-variants.{Host}
 use Rattle.calls.specs.declared.HostCall.the-variants.{Load}
 use Rattle.history.specs.Moments.{Moment, start}
-use Rattle.history.specs.Settled.{plainAt, AllSettled, Faithful}
+use Rattle.history.specs.Settled.{plainAt, AllSettled}
 use Rattle.history.specs.Runs.{Ran, Played}
-use Rattle.history.specs.Theorem.{Agrees}
+use Rattle.history.specs.Theorem.{Agrees, FaithfulRun}
 use Rattle.history.proofs.Pushed.{ran-none, ran-push}
 use Rattle.history.proofs.Theorem.{runs-agree}
 use Rattle.machine.specs.Sides.{momentOf, hostMoment}
@@ -53,7 +53,7 @@ returns g c =
     let ran = simp (take-all (c .loop-call .call-index) cs done, c .new .ensures .made ws) at (i .4) in
     let played : Played (g .T·Translator .answers) (g .T·Translator .forgets) (g .T·Translator .clears) (start ws) (c .args .translator .now) cs xs end (c .loop-call .translator) =
     (c .new .last .translator, c .new .ensures .fenced, ran) in
-    let both : Faithful (start ws) cs xs end × (AllSettled (plainAt (start ws) cs) cs → Agrees (start ws) cs xs end) =
+    let both : FaithfulRun (g .T·Translator .answers) (g .T·Translator .forgets) (g .T·Translator .clears) (start ws) (c .args .translator .now) cs xs end (c .loop-call .translator) × (AllSettled (plainAt (start ws) cs) cs → Agrees (start ws) cs xs end) =
     runs-agree (g .T·Translator .book) (g .T·Translator .answers) (g .T·Translator .forgets) (g .T·Translator .clears)
     (g .T·Translator·met .answered) (g .T·Translator·met .fenced) (g .T·Translator·met .cleared)
     (start ws) (c .args .translator .now) cs xs end (c .loop-call .translator) played in
