@@ -27,11 +27,11 @@ pub record Hit {T : Type 0} (g : Grant) (s : Tlb T) (r : Reply) (t : Tlb T) : Ty
   pub sets : setsOf t ≡ setsOf s
   pub below : t .below ≡ s .below
 
--- a miss: the translator below answers as it does, and the grant that it hands up is stored
+-- a miss: the translator below answers, its reply is the reply, and the grant that it hands up is stored
 pub record Miss {T : Type 0} (answers : T → World → Access → Reply → T → Type 0) (s : Tlb T) (w : World) (a : Access) (r : Reply) (t : Tlb T) : Type 0 where
   pub below : answers (s .below) w a r (t .below)
   pub sets : setsOf t ≡ stored (r .grant) (setsOf s)
 
--- one access to a buffer over a translator that answers so
+-- one access, where `answers` says what the translator below does
 abbrev pub Layered : {T : Type 0} → (T → World → Access → Reply → T → Type 0) → Tlb T → World → Access → Reply → Tlb T → Type 0
 Layered answers s w a r t = Cases (hit w a (setsOf s)) (Miss answers s w a r t) (λ g. Hit g s r t)

@@ -18,7 +18,7 @@ use Rattle.translator.specs.Grants.{consults}
 use Rattle.tlb.specs.declared.ways.Set.{Set}
 use Rattle.tlb.specs.Ways.{standing, firstServing, filled, cleared}
 
--- what stands past the last set
+-- what a look past the last set gives
 abbrev pub noSet : Set
 noSet = record { ways = []; next = 0 }
 
@@ -46,7 +46,7 @@ Ready sets = (i : ℕ) → getD sets i noSet .next < 4
 abbrev pub hit : World → Access → List Set → Option Grant
 hit w a sets = cond (consults w a) (firstServing (asidOf (w .guest)) a (setOf sets (pageOf a) .ways)) None
 
--- the sets after a grant was stored in the set of its own page
+-- the sets after a grant, if there is one, was stored in the set of its own page
 abbrev pub stored : Option Grant → List Set → List Set
 stored None sets = sets
 stored (Some g) sets = set sets (g .page % 16) (filled g (setOf sets (g .page)))
@@ -55,6 +55,6 @@ stored (Some g) sets = set sets (g .page % 16) (filled g (setOf sets (g .page)))
 abbrev pub setsAfter : Fence → List Set → List Set
 setsAfter f sets = map (cleared f) sets
 
--- the fence that covers every grant
+-- the fence that covers every grant: what a host fence empties
 abbrev pub everything : Fence
 everything = record { address = None; asid = None }

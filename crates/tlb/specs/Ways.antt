@@ -49,20 +49,21 @@ wayAt ways (Some i) = getD ways i None
 abbrev pub firstServing : ℕ → Access → List (Option Grant) → Option Grant
 firstServing asid a ways = wayAt ways (place (isServing asid a) ways)
 
--- the grants in the ways, in order
+-- the grants in the ways, in order; empty ways are left out
 abbrev pub standing : List (Option Grant) → List Grant
 standing ways = joined listOf ways
 
--- the set with a grant in a way
+-- the set with a grant in the way i, and the counter as given
 abbrev pub withWay : ℕ → Grant → ℕ → Set → Set
 withWay i g next s = record { ways = set (s .ways) i (Some g); next = next }
 
--- a grant goes to the first way that is alike, else to the first empty way, else to the next way, and then alone the counter moves
+-- a grant goes to the first way that is alike, else to the first empty way, else to the next way; only then the counter moves
 abbrev pub filledBy : Option ℕ → Option ℕ → Grant → Set → Set
 filledBy (Some alike) empty g s = withWay alike g (s .next) s
 filledBy None (Some empty) g s = withWay empty g (s .next) s
 filledBy None None g s = withWay (s .next) g ((s .next + 1) % 4) s
 
+-- the set after a grant was put into it
 abbrev pub filled : Grant → Set → Set
 filled g s = filledBy (place (isAlike g) (s .ways)) (place isEmpty (s .ways)) g s
 
@@ -71,5 +72,6 @@ abbrev pub spared : Fence → Option Grant → Option Grant
 spared f None = None
 spared f (Some g) = cond (coversGrant f g) None (Some g)
 
+-- the set after a fence, its counter as it was
 abbrev pub cleared : Fence → Set → Set
 cleared f s = record { ways = map (spared f) (s .ways); next = s .next }
