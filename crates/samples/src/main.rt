@@ -1,133 +1,16 @@
-//! Prints the worked examples: what is asked of the two-stage walk, and what comes.
-use memory::Memory;
-use memory::Words;
-use memory::WordsMemory;
-use stages::Access;
-use stages::GuestRoot;
-use stages::HostRoot;
-use stages::Kind;
-use stages::Mode;
-use stages::Roots;
-use stages::translate;
+//! Prints the worked examples: loads by the two-stage walk, and calls of a machine over a buffer.
 use std::error::AnyError;
 
-/// The words of one frame.
-const FRAME: usize = 512;
+mod lines;
+mod remembered;
+mod walks;
 
-/// One question: a load, at a memory of zero frames but for one word, and two root registers.
-struct Question {
-    frames: usize,
-    index: u64,
-    word: u64,
-    guest: u64,
-    host: u64,
-    mode: Mode,
-    address: u64,
-}
-
-fn two_frames(mode: Mode, address: u64) -> Question {
-    Question {
-        frames: 2,
-        index: 512,
-        word: 0xc7,
-        guest: 0x8000_1000_0000_0001,
-        host: 0,
-        mode,
-        address,
-    }
-}
-
-fn zero_frames(address: u64) -> Question {
-    Question {
-        frames: 8,
-        index: 0,
-        word: 0,
-        guest: 0,
-        host: 0x8000_0000_0000_0004,
-        mode: Mode::Supervisor,
-        address,
-    }
-}
-
-fn roots(guest: u64, host: u64) -> Result<Roots, AnyError> {
-    let Ok(guest) = GuestRoot::decode(guest) else {
-        return Err("the guest root register breaks its layout".into());
-    };
-    let Ok(host) = HostRoot::decode(host) else {
-        return Err("the host root register breaks its layout".into());
-    };
-    Ok(Roots { guest, host })
-}
-
-fn answer<M: Memory>(
-    rt: &LibcRuntime,
-    memory: &M,
-    roots: Roots,
-    access: Access,
-) -> Result<(), AnyError> {
-    match translate(memory, roots, access) {
-        Ok(to) => {
-            let index = to.frame as u64 * 512 + to.word as u64;
-            let held = memory.read(index).unwrap_or(0);
-            let (frame, word) = (to.frame, to.word);
-            println!(
-                rt,
-                "  granted: frame={frame} word={word} holding {held:016x}"
-            )?;
-        }
-        Err(fault) => {
-            let n = fault.numbers();
-            let (cause, va, gpa) = (n.cause, n.address, n.guest_physical);
-            let (stage, gl, hl) = (n.stage, n.guest_level, n.host_level);
-            println!(
-                rt,
-                "  fault: cause={cause} va={va:016x} gpa={gpa:016x} stage={stage} gl={gl} hl={hl}"
-            )?;
-        }
-    }
-    Ok(())
-}
-
-fn ask(rt: &LibcRuntime, question: Question) -> Result<(), AnyError> {
-    let Question {
-        frames,
-        index,
-        word,
-        guest,
-        host,
-        mode,
-        address,
-    } = question;
-    let mut held = vec![in rt.alloc(); 0u64; frames.saturating_mul(FRAME)]?;
-    let mut memory = Words {
-        words: held.as_mut_slice(),
-    };
-    let _ = memory.write(index, word);
-    let letter = match mode {
-        Mode::Supervisor => 's',
-        Mode::User => 'u',
-    };
-    println!(
-        rt,
-        "{frames} frames, word {index} = {word:016x}, guest root {guest:016x}, host root {host:016x}"
-    )?;
-    println!(rt, "  load mode={letter} sum=0 mxr=0 va={address:016x}")?;
-    let access = Access {
-        kind: Kind::Load,
-        mode,
-        sum: false,
-        mxr: false,
-        address,
-    };
-    answer(rt, &memory, roots(guest, host)?, access)
-}
+use remembered::print_calls;
+use walks::print_walks;
 
 fn run(rt: &LibcRuntime) -> Result<(), AnyError> {
-    ask(rt, two_frames(Mode::Supervisor, 8))?;
-    ask(rt, two_frames(Mode::User, 8))?;
-    ask(rt, two_frames(Mode::Supervisor, 4))?;
-    ask(rt, two_frames(Mode::Supervisor, 0x40_0000_0000))?;
-    ask(rt, zero_frames(0x10))
+    print_walks(rt)?;
+    print_calls(rt)
 }
 
 fn main(rt: LibcRuntime) -> Result<(), AnyError> {

@@ -1,4 +1,4 @@
--- The worked examples, as equations on the two-stage walk.
+-- The worked examples: walks as equations, and a machine over a buffer.
 use mathlib.Core.Path.{_≡_}
 use mathlib.Core.Bool.{false}
 use mathlib.Core.List.{List}
@@ -14,6 +14,9 @@ use Rattle.stages.specs.declared.accesses.Access.{Access}
 use Rattle.stages.specs.declared.numbers.Numbers.{Numbers}
 use Rattle.stages.specs.Numbers.{numbersOf}
 use Rattle.stages.specs.Stages.{World, translateOf}
+use Rattle.history.specs.Moments.{start}
+use Rattle.history.specs.Settled.{plainAt, AllSettled}
+use Rattle.worked.specs.Remembered.{editing, stopped, Remembers}
 
 -- two frames, host Bare: the guest's table is frame 1, whose first entry maps the first GiB onto frame 0 on
 abbrev pub twoFrames : World
@@ -31,18 +34,26 @@ load mode address = record { kind = Load; mode = mode; sum = false; mxr = false;
 abbrev pub asked : World → Access → Result ℕ Numbers
 asked w a = mapped (λ t. t .frame) numbersOf (translateOf w a)
 
-abbrev pub fault : ℕ → ℕ → ℕ → ℕ → ℕ → ℕ → Result ℕ Numbers
-fault cause va gpa stage gl hl =
-    Err (record { cause = cause; address = va; «guest_physical» = gpa; stage = stage; «guest_level» = gl; «host_level» = hl })
+-- a fault by its six numbers: cause, virtual and guest-physical address, stage, guest level, host level
+abbrev pub numbers : ℕ → ℕ → ℕ → ℕ → ℕ → ℕ → Numbers
+numbers cause va gpa stage gl hl =
+    record { cause = cause; address = va; «guest_physical» = gpa; stage = stage; «guest_level» = gl; «host_level» = hl }
 
+-- all of them, jointly
 pub record Examples : Type 0 where
   -- the page is mapped for mode s
   pub granted : asked twoFrames (load Supervisor 8) ≡ Ok 0
   -- and not for mode u: its leaf of level 2 lacks U
-  pub denied : asked twoFrames (load User 8) ≡ fault 13 8 0 1 2 3
+  pub denied : asked twoFrames (load User 8) ≡ Err (numbers 13 8 0 1 2 3)
   -- an address that is not a multiple of 8
-  pub misaligned : asked twoFrames (load Supervisor 4) ≡ fault 4 4 0 0 3 3
+  pub misaligned : asked twoFrames (load Supervisor 4) ≡ Err (numbers 4 4 0 0 3 3)
   -- an address whose bit 38 is set and whose bits 63 to 39 are not
-  pub notCanonical : asked twoFrames (load Supervisor 0x4000000000) ≡ fault 13 0x4000000000 0 1 3 3
+  pub notCanonical : asked twoFrames (load Supervisor 0x4000000000) ≡ Err (numbers 13 0x4000000000 0 1 3 3)
   -- the host's first table has no valid entry
-  pub unmapped : asked zeroFrames (load Supervisor 0x10) ≡ fault 21 0x10 4 2 3 2
+  pub unmapped : asked zeroFrames (load Supervisor 0x10) ≡ Err (numbers 21 0x10 4 2 3 2)
+  -- a machine over a buffer answers from a cleared entry until a fence
+  pub remembered : Remembers (twoFrames .words)
+  -- the fault that it then answers
+  pub faulted : numbersOf stopped ≡ numbers 13 8 0 1 2 3
+  -- so the list of its calls is not settled
+  pub unsettled : AllSettled (plainAt (start (twoFrames .words)) editing) editing → ⊥

@@ -1,1 +1,2 @@
+pub mod Remembered
 pub mod Examples

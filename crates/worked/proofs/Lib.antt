@@ -1,0 +1,3 @@
+mod Buffered
+mod Unsettled
+mod Examples
