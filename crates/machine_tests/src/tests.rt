@@ -15,6 +15,7 @@ use translator::NestedTranslator;
 use translator::Translator;
 
 const ASID_1: u64 = 0x8000_1000_0000_0001;
+
 const ASID_2_EMPTY: u64 = 0x8000_2000_0000_0007;
 
 // Runs the calls from those tables, and compares each answer.

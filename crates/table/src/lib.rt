@@ -8,6 +8,8 @@ mod pages;
 mod walks;
 
 pub use entries::Entry;
+pub use entries::EntryDebug;
+pub use entries::EntryPartialEq;
 pub use frames::Frame;
 pub use laws::one_word_a_level;
 pub use laws::reads_decide;
