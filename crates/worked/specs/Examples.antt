@@ -51,7 +51,7 @@ pub record Examples : Type 0 where
   pub notCanonical : asked twoFrames (load Supervisor 0x4000000000) ≡ Err (numbers 13 0x4000000000 0 1 3 3)
   -- the host's first table has no valid entry
   pub unmapped : asked zeroFrames (load Supervisor 0x10) ≡ Err (numbers 21 0x10 4 2 3 2)
-  -- a machine over a buffer answers from a cleared entry until a fence
+  -- a machine over a buffer answers by what it remembers of a cleared entry, until a fence
   pub remembered : Remembers (twoFrames .words)
   -- the fault that it then answers
   pub faulted : numbersOf stopped ≡ numbers 13 8 0 1 2 3
