@@ -5,6 +5,10 @@ ghost use Rattle.refusal.specs.Numbers.{numberOf};
 /// What is refused.
 #[derive(Clone, Copy, PartialEq, Eq, Debug)]
 pub enum Refusal {
+    /// The image is not 1 to 4,096 whole frames, the trace's first line is bad, or the two differ.
+    Frames,
+    /// The pool is not whole frames, or has fewer than 4.
+    Pool,
     /// The guest root register breaks its layout.
     GuestRoot,
     /// The host root register breaks its layout.
@@ -17,6 +21,8 @@ pub enum Refusal {
     FenceAsid,
     /// The call could not be read.
     Unreadable,
+    /// Too many calls, or too small a report.
+    Room,
 }
 
 impl Refusal {
@@ -25,12 +31,15 @@ impl Refusal {
         ensures { λ r. ⌜ r ≡ numberOf self ⌝ }
     {
         match self {
+            Refusal::Frames => 1,
+            Refusal::Pool => 2,
             Refusal::GuestRoot => 3,
             Refusal::HostRoot => 4,
             Refusal::HostAddress => 5,
             Refusal::OtherSide => 6,
             Refusal::FenceAsid => 7,
             Refusal::Unreadable => 8,
+            Refusal::Room => 9,
         }
     }
 }

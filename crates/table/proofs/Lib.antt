@@ -1,4 +1,4 @@
 mod Fields
-mod Descents
-mod Chains
+pub mod Descents
+pub mod Chains
 mod WordsRead

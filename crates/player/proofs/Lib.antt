@@ -1,0 +1,3 @@
+pub mod Opening
+pub mod Progress
+pub mod Shorter

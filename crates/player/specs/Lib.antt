@@ -1,0 +1,4 @@
+pub mod Traces
+pub mod Judging
+pub mod Reports
+pub mod Plays
