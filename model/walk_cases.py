@@ -277,8 +277,7 @@ def rights():
                         given = given if user_page else set()
                     elif user_page:
                         given = given - {"f"} if sum else set()
-                    # MXR alone and SUM alone are for loads; the others are tried with neither and with both
-                    for kind in KINDS if sum == mxr else (LOAD,):
+                    for kind in KINDS:
                         want = granted(0, 5, 0, None) if kind[0] in given else faulted(kind, 1, 0, 3)
                         table.ask(kind, address_of(0, 0, index), want, user, sum, mxr)
     return [table]
