@@ -14,7 +14,7 @@ pub trait Matches<Q> {
 
 /// The first place whose item fits the query.
 pub fn first_match<X: Matches<Q>, Q>(items: &[X], query: &Q) -> Option<usize>
-    ensures { Found (λ x. fits x query.now) items.now result }
+    ensures { Found (λ x. X.fits x query.now) items.now result }
 {
     for (i, item) in items.iter().enumerate() {
         if item.is_match(query) {

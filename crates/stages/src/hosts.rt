@@ -29,7 +29,7 @@ impl<'a, M: Memory> TableSource for HostMemory<'a, M> {
 
 // The path of a guest-physical page, whatever the rights.
 fn host_path<M: Memory>(memory: &M, root: HostRoot, page: Page) -> Result<Landing, HostFault>
-    ensures answer { result ≡ host_path (words memory.now) root.register page.number }
+    ensures answer { result ≡ host_path (M.words memory.now) root.register page.number }
     ensures fits { IfOk result (λ at. at.frame < 2 ^ 52) }
 {
     let Some(table) = root.table() else {
@@ -55,7 +55,7 @@ fn host_stage<M: Memory>(
     kind: Kind,
     page: Page,
 ) -> Result<Landing, HostFault>
-    ensures answer { result ≡ host_stage (words memory.now) root.register kind page.number }
+    ensures answer { result ≡ host_stage (M.words memory.now) root.register kind page.number }
     ensures fits { IfOk result (λ at. at.frame < 2 ^ 52) }
 {
     let at = host_path(memory, root, page)?;
@@ -68,7 +68,7 @@ fn host_stage<M: Memory>(
 // A load of one word of the guest's physical memory.
 fn host_load<M: Memory>(memory: &M, root: HostRoot, word: u64) -> Result<u64, HostFault>
     requires { word < 2 ^ 61 }
-    ensures { result ≡ host_load (words memory.now) root.register word }
+    ensures { result ≡ host_load (M.words memory.now) root.register word }
 {
     let page = Page { number: word / 512 };
     let at = host_stage(memory, root, Kind::Load, page)?;
@@ -107,7 +107,7 @@ pub fn host_reach<M: Memory>(
     kind: Kind,
     page: Page,
 ) -> Result<Landing, HostFault>
-    ensures answer { result ≡ host_reach (words memory.now) root.register kind page.number }
+    ensures answer { result ≡ host_reach (M.words memory.now) root.register kind page.number }
     ensures inside { IfOk result (λ at. at.frame < 4096) }
 {
     let at = host_stage(memory, root, kind, page)?;

@@ -16,7 +16,7 @@ use table::walk;
 
 // The path of a virtual page to a guest frame, whatever the rights.
 fn guest_path<M: Memory>(memory: &M, roots: Roots, page: Page) -> Result<Landing, GuestFault>
-    ensures answer { result ≡ guest_path (world_of (words memory.now) roots) page.number }
+    ensures answer { result ≡ guest_path (world_of (M.words memory.now) roots) page.number }
     ensures fits { IfOk result (λ at. at.frame < 2 ^ 52) }
 {
     let Some(table) = roots.guest.table() else {
@@ -42,7 +42,7 @@ fn guest_path<M: Memory>(memory: &M, roots: Roots, page: Page) -> Result<Landing
 
 // The guest stage of an access.
 fn guest_stage<M: Memory>(memory: &M, roots: Roots, access: Access) -> Result<Landing, GuestFault>
-    ensures answer { result ≡ guest_stage (world_of (words memory.now) roots) access }
+    ensures answer { result ≡ guest_stage (world_of (M.words memory.now) roots) access }
     ensures fits { IfOk result (λ at. at.frame < 2 ^ 52) }
 {
     let at = guest_path(memory, roots, Page::of(access.address))?;
@@ -62,7 +62,7 @@ fn final_stage<M: Memory>(
     at: Landing,
 ) -> Result<Landing, Unreached>
     requires { at.frame < 2 ^ 52 }
-    ensures answer { result ≡ final_stage (world_of (words memory.now) roots) access at }
+    ensures answer { result ≡ final_stage (world_of (M.words memory.now) roots) access at }
     ensures inside { IfOk result (λ end. end.frame < 4096) }
 {
     let page = Page { number: at.frame };
@@ -81,7 +81,7 @@ fn two_stages<M: Memory>(
     roots: Roots,
     access: Access,
 ) -> Result<Translation, GuestFault>
-    ensures { result ≡ two_stages (world_of (words memory.now) roots) access }
+    ensures { result ≡ two_stages (world_of (M.words memory.now) roots) access }
 {
     if !access.is_aligned() {
         return Err(GuestFault::Misaligned);
@@ -98,8 +98,8 @@ fn two_stages<M: Memory>(
 
 /// The two-stage walk of an access: the frame, the word in it and the leaves, or the whole fault.
 pub fn translate<M: Memory>(memory: &M, roots: Roots, access: Access) -> Result<Translation, Fault>
-    ensures answer { result ≡ translate_of (world_of (words memory.now) roots) access }
-    ensures granted { (t : Translation) → (result ≡ Ok t) ↔ Granted (world_of (words memory.now) roots) access t }
+    ensures answer { result ≡ translate_of (world_of (M.words memory.now) roots) access }
+    ensures granted { (t : Translation) → (result ≡ Ok t) ↔ Granted (world_of (M.words memory.now) roots) access t }
 {
     match two_stages(memory, roots, access) {
         Ok(translation) => Ok(translation),

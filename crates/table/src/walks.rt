@@ -96,7 +96,7 @@ fn descend<S: TableSource>(
     table: Table,
     page: Page,
 ) -> Result<Leaf, WalkFault<S::Fault>>
-    ensures answer { result ≡ walk_of (reads source.now) table.top (bits_of table.index) table.root.number page.number }
+    ensures answer { result ≡ walk_of (S.reads source.now) table.top (bits_of table.index) table.root.number page.number }
     ensures fits { IfOk result (λ leaf. leaf.frame < 2 ^ 52) }
 {
     let mut level = table.top;
@@ -126,8 +126,8 @@ pub fn walk<S: TableSource>(
     table: Table,
     page: Page,
 ) -> Result<Leaf, WalkFault<S::Fault>>
-    ensures answer { result ≡ walk_of (reads source.now) table.top (bits_of table.index) table.root.number page.number }
-    ensures chain { FollowsChain (reads source.now) table.top (bits_of table.index) table.root.number page.number result }
+    ensures answer { result ≡ walk_of (S.reads source.now) table.top (bits_of table.index) table.root.number page.number }
+    ensures chain { FollowsChain (S.reads source.now) table.top (bits_of table.index) table.root.number page.number result }
     ensures fits { IfOk result (λ leaf. leaf.frame < 2 ^ 52) }
 {
     descend(source, table, page)

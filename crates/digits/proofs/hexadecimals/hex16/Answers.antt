@@ -7,7 +7,7 @@ use Rattle.digits.proofs.hexadecimals.hex16.Goals as goal
 pub loop-i-preserved : goal.loop-i-preserved
 loop-i-preserved c = (
   simp length-set c.loop-i.invariant.0,
-  rw c.last-char.ensures (hex_of_back c.loop-i.i c.loop-i.rest (hex_of 16 c.args.n) c.loop-i.chars (omega arith) (omega arith) c.loop-i.invariant.1),
+  rw c.last_char.ensures (hex_of_back c.loop-i.i c.loop-i.rest (hex_of 16 c.args.n) c.loop-i.chars (omega arith) (omega arith) c.loop-i.invariant.1),
 )
 
 pub returns : goal.returns

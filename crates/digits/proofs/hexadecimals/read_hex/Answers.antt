@@ -11,27 +11,27 @@ pub loop-b-init : goal.loop-b-init
 unfolding hex_of
 loop-b-init c = (refl, lit< tt)
 
-pub returns-in-err-digit : goal.returns-in-err-digit
-returns-in-err-digit c =
-    rw c.from-residual.ensures
+pub returns-in_err-digit : goal.returns-in_err-digit
+returns-in_err-digit c =
+    rw c.from_residual.ensures
     (λ k n h e. let i = c.loop-b.b-index in
     let r = hex_of_at k n i (omega (arith, ap length e, length_hex_of k n)) in
-    c.in-err-digit.ensures r.0 r.1 (ap (λ l. get_or l i 0) e ∙ r.2))
+    c.in_err-digit.ensures r.0 r.1 (ap (λ l. get_or l i 0) e ∙ r.2))
 
-pub overflow-mul-n : goal.overflow-mul-n
-overflow-mul-n c = omega (arith, hex_of_room c.loop-b.b-index c.loop-b.n (omega arith) c.loop-b.invariant.1)
+pub overflow_mul-n : goal.overflow_mul-n
+overflow_mul-n c = omega (arith, hex_of_room c.loop-b.b-index c.loop-b.n (omega arith) c.loop-b.invariant.1)
 
-pub overflow-add-n : goal.overflow-add-n
-overflow-add-n c = omega (arith, hex_of_room c.loop-b.b-index c.loop-b.n (omega arith) c.loop-b.invariant.1, c.in-ok-digit.ensures.0)
+pub overflow_add-n : goal.overflow_add-n
+overflow_add-n c = omega (arith, hex_of_room c.loop-b.b-index c.loop-b.n (omega arith) c.loop-b.invariant.1, c.in_ok-digit.ensures.0)
 
 pub loop-b-preserved : goal.loop-b-preserved
 loop-b-preserved c =
     let i = c.loop-b.b-index in
-    let d = c.in-ok-digit.ensures in
+    let d = c.in_ok-digit.ensures in
     let t = take_more c.args.bytes.now i 0 c.loop-b-test.true in
-    let p = hex_of_push i c.loop-b.n c.in-ok-digit.digit d.0 in
+    let p = hex_of_push i c.loop-b.n c.in_ok-digit.digit d.0 in
     let e = d.1 in
-    ((cc), below_push i c.loop-b.n c.in-ok-digit.digit d.0 c.loop-b.invariant.1)
+    ((cc), below_push i c.loop-b.n c.in_ok-digit.digit d.0 c.loop-b.invariant.1)
 
 pub returns : goal.returns
 returns c =

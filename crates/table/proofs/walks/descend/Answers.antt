@@ -12,20 +12,20 @@ returns-then-stops g c =
     let r = simp c.index.ensures at (sym c.in-Ok.ensures) in
     record { answer = sym (at_stop _ _ _ _ _ _ _ _ r (sym c.if-stops.ensures)) ∙ c.loop-word.invariant; fits = tt }
 
-pub overflow-sub-level : goal.overflow-sub-level
-overflow-sub-level g c = search (rules, points_above)
+pub overflow_sub-level : goal.overflow_sub-level
+overflow_sub-level g c = search (rules, points_above)
 
 pub loop-word-smaller : goal.loop-word-smaller
 loop-word-smaller g c = search (rules, points_above)
 
-pub returns-then-not-is-pointer : goal.returns-then-not-is-pointer
-returns-then-not-is-pointer g c =
+pub returns-then-not-is_pointer : goal.returns-then-not-is_pointer
+returns-then-not-is_pointer g c =
     let r = simp c.index.ensures at (sym c.in-Ok.ensures) in
-    let l = at_leaf _ _ _ _ _ _ c.loop-word.global _ r (sym c.if-stops.ensures) (sym c.if-not-is-pointer.ensures) in
-    record { answer = simp (c.of.ensures.answer, c.is-global-global.ensures) (sym l ∙ c.loop-word.invariant); fits = c.of.ensures.fits }
+    let l = at_leaf _ _ _ _ _ _ c.loop-word.global _ r (sym c.if-stops.ensures) (sym c.if-not-is_pointer.ensures) in
+    record { answer = simp (c.of.ensures.answer, c.is_global-global.ensures) (sym l ∙ c.loop-word.invariant); fits = c.of.ensures.fits }
 
 pub loop-word-preserved : goal.loop-word-preserved
 loop-word-preserved g c =
     let r = simp c.index.ensures at (sym c.in-Ok.ensures) in
-    simp (c.frame-frame.ensures, c.is-global-global.ensures)
-    (walk_pointer _ _ _ _ _ _ c.loop-word.global _ r (sym c.if-stops.ensures) (sym c.if-not-is-pointer.ensures) ∙ c.loop-word.invariant)
+    simp (c.frame-frame.ensures, c.is_global-global.ensures)
+    (walk_pointer _ _ _ _ _ _ c.loop-word.global _ r (sym c.if-stops.ensures) (sym c.if-not-is_pointer.ensures) ∙ c.loop-word.invariant)
