@@ -72,8 +72,8 @@ def main(argv):
             names[n] += "_lem"
     names |= LEMMAS
     bad, changed = [], {}
-    jobs = [(p, names) for p in files(root, (".antt",))]
-    jobs += [(p, camel) for p in files(root, (".rt", ".edit"))]
+    jobs = [(p, names) for p in files(root, (".antt", ".rt"))]
+    jobs += [(p, camel) for p in files(root, (".edit",))]
     jobs += [(p, camel) for p in files(root, (".md",), ("docs",))] + [(os.path.join(root, "README.md"), camel)]
     for path, table in jobs:
         text = read(path)

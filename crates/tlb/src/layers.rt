@@ -2,7 +2,7 @@
 ghost use Rattle.std.specs.Prelude.{◌≡◌, ◌++◌, IfOk};
 ghost use Rattle.tlb.specs.Tables.{book_of, sets_after, everything, empty_sets};
 ghost use Rattle.tlb.specs.Layer.{sets_of, Layered};
-ghost use Rattle.tlb.specs.Laws.{layer-answers, fence-keeps, none_left};
+ghost use Rattle.tlb.specs.Laws.{layer_answers, fence_keeps, none_left};
 
 use crate::tables::Table;
 use access::Access;
@@ -48,9 +48,9 @@ impl<T: Translator> Translator for Tlb<T> {
 
     ghost clears = { λ s t. (sets_of t ≡ sets_after everything (sets_of s)) × T.Translator.clears s.below t.below };
 
-    ghost answered = { λ s t w a r l. layer-answers T.Translator.book T.Translator.answers T.Translator.answered s t w a r l };
+    ghost answered = { λ s t w a r l. layer_answers T.Translator.book T.Translator.answers T.Translator.answered s t w a r l };
 
-    ghost fenced = { λ s t f (e, l). rw e (fence-keeps f (sets_of s) (T.Translator.book s.below) (T.Translator.book t.below) (T.Translator.fenced s.below t.below f l)) };
+    ghost fenced = { λ s t f (e, l). rw e (fence_keeps f (sets_of s) (T.Translator.book s.below) (T.Translator.book t.below) (T.Translator.fenced s.below t.below f l)) };
 
     ghost cleared = { λ s t (e, l). rw (e, none_left (sets_of s)) (T.Translator.cleared s.below t.below l) };
 

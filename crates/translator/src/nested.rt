@@ -4,8 +4,8 @@ ghost use Rattle.std.proofs.Common.{sym, subst, rules};
 ghost use Rattle.translator.specs.Walked.{walked_reply};
 ghost use Rattle.translator.specs.declared.replies.Reply.{Reply};
 ghost use Rattle.translator.specs.Rules.{Answered};
-ghost use Rattle.translator.specs.Firsts.{answering-none};
-ghost use Rattle.translator.specs.Walks.{walked-outcome, walked-handed, walked-bare};
+ghost use Rattle.translator.specs.Firsts.{answering_none};
+ghost use Rattle.translator.specs.Walks.{walked_outcome, walked_handed, walked_bare};
 
 use crate::fences::Fence;
 use crate::replies::{Reply, walked};
@@ -28,9 +28,9 @@ impl Translator for Nested {
     ghost clears = { λ s t. Unit {0} };
 
     ghost answered = { λ s t w a r e.
-        let none = answering-none w a in
+        let none = answering_none w a in
         subst (λ (q : Reply). Answered [] w a q []) (sym e)
-        (record { outcome = walked-outcome [] w a none; kept = tt; handed = walked-handed [] w a none; bare = walked-bare [] w a }) };
+        (record { outcome = walked_outcome [] w a none; kept = tt; handed = walked_handed [] w a none; bare = walked_bare [] w a }) };
 
     ghost fenced = { Prim.search rules };
 

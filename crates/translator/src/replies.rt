@@ -52,7 +52,7 @@ fn fullest(asid: u16, access: Access, translation: Translation) -> Option<Grant>
 
 /// What the walk answers: its frame or fault, and after a walk that grants the fullest true grant.
 pub fn walked<M: Memory>(memory: &M, roots: Roots, access: Access) -> Reply
-    ensures { result ≡ walked_reply (world_of (words memory.now) roots) access }
+    ensures { result ≡ walked_reply (world_of (M.words memory.now) roots) access }
 {
     match translate(memory, roots, access) {
         Ok(translation) => Reply {

@@ -6,8 +6,8 @@ use Rattle.trace.proofs.Cuts.{cut_first, lacks_all}
 use Rattle.trace.proofs.Cutting.{first_line, last_line}
 use Rattle.trace.proofs.lines.next_line.Goals as goal
 
-pub returns-then-is-empty : goal.returns-then-is-empty
-returns-then-is-empty c = nil_from_length c.args.text.now (true-eqb (length c.args.text.now) 0 c.if-is-empty.ensures)
+pub returns-then-is_empty : goal.returns-then-is_empty
+returns-then-is_empty c = nil_from_length c.args.text.now (true-eqb (length c.args.text.now) 0 c.if-is_empty.ensures)
 
 pub returns-in-Some : goal.returns-in-Some
 returns-in-Some c =
@@ -26,6 +26,6 @@ returns-in-Some c =
 pub returns-in-None : goal.returns-in-None
 returns-in-None c =
     let text = c.args.text.now in
-    let some : 0 < length text = omega (arith, false-eqb (length text) 0 c.if-is-empty.ensures) in
+    let some : 0 < length text = omega (arith, false-eqb (length text) 0 c.if-is_empty.ensures) in
     let none : take (length text - length text) (drop (length text) text) ≡ [] = take_rest text (length text) ∙ drop_all (length text) text (omega arith) in
     rw none (last_line text (lacks_all LineFeed text c.in-None.ensures) some, sym (append-nil text), some)
