@@ -3,7 +3,6 @@ ghost use Rattle.std.specs.Prelude.{◌≡◌};
 ghost use Rattle.leaves.specs.Fences.{unmapped, emptied, fenced};
 
 use layout::{Asid, VirtualPage};
-use mapping::{drop_asid, remove, remove_everywhere, reset};
 use pool::Pool;
 use translator::Fence;
 
@@ -14,10 +13,10 @@ fn unmap(pool: &mut Pool, page: VirtualPage, asid: Option<u16>)
     match asid {
         Some(number) => {
             if let Some(asid) = Asid::new(number) {
-                remove(pool, asid, page);
+                pool.remove(asid, page);
             }
         }
-        None => remove_everywhere(pool, page),
+        None => pool.remove_everywhere(page),
     }
 }
 
@@ -28,10 +27,10 @@ fn empty(pool: &mut Pool, asid: Option<u16>)
     match asid {
         Some(number) => {
             if let Some(asid) = Asid::new(number) {
-                drop_asid(pool, asid);
+                pool.drop_asid(asid);
             }
         }
-        None => reset(pool),
+        None => pool.reset(),
     }
 }
 

@@ -6,7 +6,7 @@ ghost use Rattle.layout.specs.Sound.{Inside, Apart, Shaped};
 /// A pool of at least four frames, with the tables in them.
 #[derive(Drop)]
 pub struct Pool {
-    pub words: Vec<u64>,
+    pub(crate) words: Vec<u64>,
     ghost large: { 4 ≤ frames words.items },
     ghost some: { 1 ≤ next words.items },
     ghost fits: { next words.items ≤ frames words.items },

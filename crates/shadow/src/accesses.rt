@@ -8,7 +8,6 @@ ghost use Rattle.shadow.specs.Steps.{learnt, reply_by, after_by};
 use access::Access;
 use layout::{Asid, LeafEntry, VirtualPage};
 use leaves::{answering, has_some_right, leaf_entry};
-use mapping::insert;
 use memory::Memory;
 use pool::Pool;
 use registers::Roots;
@@ -32,7 +31,7 @@ fn learn(pool: &mut Pool, grant: Grant)
     let leaf = LeafEntry {
         entry: leaf_entry(grant),
     };
-    insert(pool, asid, page, leaf);
+    pool.insert(asid, page, leaf);
 }
 
 // Answers an access from the pool, or by the walk, from which the pool learns.

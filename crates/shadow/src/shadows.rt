@@ -9,8 +9,8 @@ use crate::accesses::access_pool;
 use crate::stores::Store;
 use access::Access;
 use leaves::fence_pool;
-use mapping::{make, reset};
 use memory::Memory;
+use pool::Pool;
 use registers::Roots;
 use translator::{Fence, Reply, Translator, walked};
 
@@ -25,7 +25,7 @@ impl Shadow {
     pub fn new(pool: Vec<u64>) -> Shadow
         ensures { MadeOf pool.items result.store }
     {
-        match make(pool) {
+        match Pool::new(pool) {
             Ok(pool) => Shadow {
                 store: Store::Working(pool),
             },
@@ -78,7 +78,7 @@ impl Translator for Shadow {
     fn host_fence(&mut self) {
         match &mut self.store {
             Store::Idle(_) => {}
-            Store::Working(pool) => reset(pool),
+            Store::Working(pool) => pool.reset(),
         }
     }
 }

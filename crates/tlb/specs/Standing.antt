@@ -73,18 +73,18 @@ all_placed sets all i g h = all-has (λ x. x.page % 16 ≡ i) (standing (get_or 
 
 -- the invariant, kept
 module _ (sets : List Set) (placed : Placed sets) (ready : Ready sets) where
-  pub store_keeps : (g : Grant) (s : Set) → s ≡ filled g (set_of sets g.page) → Placed (slice_set sets (g.page % 16) s) × (Ready (slice_set sets (g.page % 16) s) × Unit {0})
+  pub store_keeps : (g : Grant) (s : Set) → s ≡ filled g (set_of sets g.page) → Placed (slice_set sets (g.page % 16) s) × Ready (slice_set sets (g.page % 16) s)
   store_keeps g s e =
       let t = set_of sets g.page in
       let here : Of (g.page % 16) (filled g t) = filled_holds _ g t refl (placed_all sets placed (g.page % 16)) in
       let low : (filled g t).next < 4 = next_filled_by (place (is_alike g) t.ways) (place is_empty t.ways) g t (ready (g.page % 16)) in (
         all_placed _ (each_set Of sets (g.page % 16) s (subst (Of (g.page % 16)) (sym e) here) (placed_all sets placed)),
-        (each_set (λ i x. x.next < 4) sets (g.page % 16) s (subst (λ (x : Set). x.next < 4) (sym e) low) ready, tt),
+        (each_set (λ i x. x.next < 4) sets (g.page % 16) s (subst (λ (x : Set). x.next < 4) (sym e) low) ready),
       )
 
-  pub clear_keeps : (f : Fence) (after : List Set) → after ≡ sets_after f sets → Placed after × (Ready after × Unit {0})
+  pub clear_keeps : (f : Fence) (after : List Set) → after ≡ sets_after f sets → Placed after × Ready after
   clear_keeps f after e =
-      subst (λ (x : List Set). Placed x × (Ready x × Unit {0})) (sym e) (
+      subst (λ (x : List Set). Placed x × Ready x) (sym e) (
         all_placed _ (each_map Of Of (cleared f) sets (λ j. tt) (λ j s h. All-weaker _ _ (λ g q. q.0) _ (spared_all _ f s.ways h)) (placed_all sets placed)),
-        (each_map (λ j s. s.next < 4) (λ j s. s.next < 4) (cleared f) sets (λ j. omega arith) (λ j s l. l) ready, tt),
+        (each_map (λ j s. s.next < 4) (λ j s. s.next < 4) (cleared f) sets (λ j. omega arith) (λ j s l. l) ready),
       )

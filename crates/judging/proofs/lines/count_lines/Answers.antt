@@ -14,4 +14,4 @@ loop-after-preserved c =
 
 pub returns : goal.returns
 unfolding lines_of
-returns c = omega (arith, c.loop-after.invariant.0, ap (λ r. length (lines_of r)) c.in-default.ensures)
+returns c = omega (arith, c.loop-after.invariant.0, ap (λ r. length (lines_of r)) c.in_default.ensures)

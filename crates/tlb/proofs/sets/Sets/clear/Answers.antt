@@ -14,7 +14,7 @@ loop-page-preserved c =
     let own : i % 16 ≡ i = omega arith in
     let in_was : i < length was = omega (arith, c.args.self.now.rows.ok.0) in
     let in_rows : i < length rows = omega (arith, c.loop-page.self.rows.ok.0, c.loop-page.invariant.0) in
-    let at : lent ≡ get_or rows i lent = c.set_mut.ensures ∙ ap (λ k. get_or rows k no_set) own ∙ get_or_default rows i no_set lent in_rows in (
+    let at : lent ≡ get_or rows i lent = c.set_mut.ensures.facts ∙ ap (λ k. get_or rows k no_set) own ∙ get_or_default rows i no_set lent in_rows in (
       c.loop-page.invariant.0,
       ap (λ k. set rows k c.clear.new.self) own ∙ ap (set rows i) c.clear.ensures ∙ map_over_more (cleared c.args.fence) was rows i lent in_was c.loop-page.invariant.1 at,
     )

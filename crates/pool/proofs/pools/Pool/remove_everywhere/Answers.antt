@@ -3,7 +3,7 @@ use Rattle.layout.specs.Changes.{removed, removed_below}
 use Rattle.layout.proofs.Holds.{removes_everywhere}
 use Rattle.layout.proofs.Rest.{removed_everywhere_rest, same_kept}
 use Rattle.pool.proofs.Fields.{sound_of}
-use Rattle.mapping.proofs.changes.remove_everywhere.Goals as goal
+use Rattle.pool.proofs.pools.Pool.remove_everywhere.Goals as goal
 
 pub loop-number-init : goal.loop-number-init
 unfolding removed_below
@@ -16,9 +16,9 @@ loop-number-preserved c = rw add-one (c.remove.ensures.after ∙ ap (λ p. remov
 pub returns : goal.returns
 returns c =
     let e : c.loop-number.number ≡ 16 = omega arith in
-    let x = c.loop-number.invariant ∙ ap (λ n. removed_below (vec_items c.args.pool.now.words) c.args.page.number n) e in
+    let x = c.loop-number.invariant ∙ ap (λ n. removed_below (vec_items c.args.self.now.words) c.args.page.number n) e in
     record {
       after = x;
-      rest = same_kept _ _ _ x (removed_everywhere_rest _ c.args.page.number (sound_of c.args.pool.now));
-      law = removes_everywhere _ c.args.page.number (sound_of c.args.pool.now) c.args.page.canonical;
+      rest = same_kept _ _ _ x (removed_everywhere_rest _ c.args.page.number (sound_of c.args.self.now));
+      law = removes_everywhere _ c.args.page.number (sound_of c.args.self.now) c.args.page.canonical;
     }

@@ -1,6 +1,6 @@
 use Rattle.std.proofs.Common.{refl, add-one}
 use Rattle.layout.specs.Changes.{cleared}
-use Rattle.mapping.proofs.words.clear.Goals as goal
+use Rattle.pool.proofs.words.clear.Goals as goal
 
 pub loop-k-init : goal.loop-k-init
 unfolding cleared

@@ -1,7 +1,7 @@
 use Rattle.std.proofs.Common.{◌≡◌, ℕ, ◌<◌, List, length, get_or, vec_items, sym, ap, ◌∙◌, arith}
 use Rattle.layout.specs.Tables.{named, names}
 use Rattle.layout.proofs.Takes.{grown_names, grown_taken, taken_frames}
-use Rattle.mapping.proofs.words.grow.Goals as goal
+use Rattle.pool.proofs.words.grow.Goals as goal
 
 pub returns : goal.returns
 returns c =

@@ -1,6 +1,0 @@
-use Rattle.std.proofs.Common.{◌≡◌, vec_items}
-use Rattle.layout.specs.Changes.{removed_below}
-use Rattle.mapping.proofs.changes.remove_everywhere.Given as goal
-
-abbrev pub invariant-loop-number : goal.invariant-loop-number
-invariant-loop-number l = vec_items l.pool.words ≡ removed_below (vec_items l.initial.pool.words) l.page.number l.number
