@@ -14,7 +14,7 @@ use Rattle.machine.proofs.runs.run.Goals as goal
 
 pub loop-call-init : goal.loop-call-init
 loop-call-init g c =
-    let m = c.in-ok-answers.ensures in
+    let m = c.in_ok-answers.ensures in
     let none = ran_none g.T.Translator.answers g.T.Translator.forgets g.T.Translator.clears
     (host_moment (g.M.Memory.words c.args.memory.now) c.new.result.roots) c.new.new.translator in
     (m.len, refl, refl, refl, simp m.items none)
@@ -22,7 +22,7 @@ loop-call-init g c =
 pub loop-call-preserved : goal.loop-call-preserved
 loop-call-preserved g c =
     let i = c.loop-call.invariant in
-    let p = c.push-reserved.ensures in
+    let p = c.push_reserved.ensures in
     let e = c.call-next.ensures in
     let below : c.loop-call.call-index < length c.args.calls.now = omega arith in
     let r = ran_push g.T.Translator.answers g.T.Translator.forgets g.T.Translator.clears
@@ -34,8 +34,8 @@ loop-call-preserved g c =
     i.4 e.stepped in (
       omega arith,
       cc,
-      e.rest-kept ∙ i.2,
-      e.lenders-kept ∙ i.3,
+      e.rest_kept ∙ i.2,
+      e.lenders_kept ∙ i.3,
       simp (take_more c.args.calls.now c.loop-call.call-index (Host (Load 0)) below, p.items) r,
     )
 
@@ -54,4 +54,4 @@ returns g c =
     runs_agree g.T.Translator.book g.T.Translator.answers g.T.Translator.forgets g.T.Translator.clears
     g.met.T.Translator.answered g.met.T.Translator.fenced g.met.T.Translator.cleared
     (start ws) c.args.translator.now cs xs end c.loop-call.translator played in
-    record { played = played; agrees = both.1; faithful = both.0; unchanged = tt; rest-kept = i.2; lenders-kept = i.3 }
+    record { played = played; agrees = both.1; faithful = both.0; unchanged = tt; rest_kept = i.2; lenders_kept = i.3 }

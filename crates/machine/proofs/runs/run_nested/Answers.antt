@@ -9,6 +9,6 @@ returns g c =
     record {
       agrees = IfOk-weaker _ _ _ (λ e p. walks_agree _ _ _ (λ s t w a r h. ap (λ x. x.outcome) h ∙ walked_to_lem w a) _ _ _ _ _ _ p.2) c.run.ensures.played;
       unchanged = search rules;
-      rest-kept = c.run.ensures.rest-kept;
-      lenders-kept = c.run.ensures.lenders-kept;
+      rest_kept = c.run.ensures.rest_kept;
+      lenders_kept = c.run.ensures.lenders_kept;
     }

@@ -4,14 +4,14 @@ use Rattle.leaves.proofs.Words.{word_leaf}
 use Rattle.shadow.specs.Answering.{learnt_made}
 use Rattle.shadow.proofs.accesses.learn.Goals as goal
 
-pub invariant-of-leaf : goal.invariant-of-leaf
-invariant-of-leaf c =
+pub invariant_of-leaf : goal.invariant_of-leaf
+invariant_of-leaf c =
     let small : c.args.grant.frame < 2 ^ 16 = search rules in
-    (ap is_leaf c.leaf-entry.ensures ∙ word_leaf c.args.grant small (sym c.if-not-has-some-right.ensures) c.requires.rights, tt)
+    record { leaf = ap is_leaf c.leaf_entry.ensures ∙ word_leaf c.args.grant small (sym c.if-not-has_some_right.ensures) c.requires.rights }
 
 pub returns : goal.returns
 returns c =
     let small : c.args.grant.frame < 2 ^ 16 = search rules in
-    learnt_made (vec_items c.args.pool.now.words) _ c.args.grant c.in-Some.asid.number c.in-Some-new.page.number c.leaf-entry.result.word
-    c.insert.ensures.after c.in-Some.ensures c.in-Some-new.ensures c.leaf-entry.ensures (sym c.if-not-has-some-right.ensures)
+    learnt_made (vec_items c.args.pool.now.words) _ c.args.grant c.in-Some.asid.number c.in-Some-new.page.number c.leaf_entry.result.word
+    c.insert.ensures.after c.in-Some.ensures c.in-Some-new.ensures c.leaf_entry.ensures (sym c.if-not-has_some_right.ensures)
     c.in-Some.asid.few small
