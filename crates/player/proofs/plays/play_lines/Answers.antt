@@ -11,8 +11,8 @@ pub loop-line-init : goal.loop-line-init
 loop-line-init g c =
     (refl, refl, progress_none (host_moment (g.M.Memory.words c.args.memory.now) c.new.result.roots) c.new.new.translator c.args.calls.now c.args.report.now)
 
-pub play-line-cursor-requires : goal.play-line-cursor-requires
-play-line-cursor-requires g c =
+pub play_line-cursor-requires : goal.play_line-cursor-requires
+play_line-cursor-requires g c =
     let room = progress_room c.loop-line.invariant.2 c.in-Some.line.now (lines_of c.in-Some.after.now) c.in-Some.ensures.0 (length c.args.report.now) c.requires.room in
     record { few = omega (arith, room.0, c.requires.few); room = omega (arith, room.1, c.loop-line.auto.report) }
 
@@ -22,11 +22,11 @@ loop-line-smaller g c = let h = c.in-Some.ensures in shorter c.loop-line.rest.no
 pub loop-line-preserved : goal.loop-line-preserved
 loop-line-preserved g c =
     let i = c.loop-line.invariant in
-    let e = c.play-line-cursor.ensures in
+    let e = c.play_line-cursor.ensures in
     let more =
-    progress_more i.2 c.in-Some.line.now c.in-Some.after.now (moment_of (g.M.Memory.words c.play-line-cursor.new.memory) c.play-line-cursor.result.machine)
-    c.play-line-cursor.new.translator c.play-line-cursor.new.report c.play-line-cursor.result.end c.in-Some.ensures.0 e.played in
-    (e.rest-kept ∙ i.0, e.lenders-kept ∙ i.1, simp e.counted more)
+    progress_more i.2 c.in-Some.line.now c.in-Some.after.now (moment_of (g.M.Memory.words c.play_line-cursor.new.memory) c.play_line-cursor.result.machine)
+    c.play_line-cursor.new.translator c.play_line-cursor.new.report c.play_line-cursor.result.end c.in-Some.ensures.0 e.played in
+    (e.rest_kept ∙ i.0, e.lenders_kept ∙ i.1, simp e.counted more)
 
 pub returns : goal.returns
 returns g c =
@@ -37,7 +37,7 @@ returns g c =
     runs_agree g.T.Translator.book g.T.Translator.answers g.T.Translator.forgets g.T.Translator.clears
     g.met.T.Translator.answered g.met.T.Translator.fenced g.met.T.Translator.cleared in
     record {
-      played = progress_all i.2 agree ws c.args.translator.now vs (c.new.ensures.made ws) c.new.ensures.fenced c.in-default.ensures (words_of vs c.loop-line.cursor.machine);
-      rest-kept = i.0;
-      lenders-kept = i.1;
+      played = progress_all i.2 agree ws c.args.translator.now vs (c.new.ensures.made ws) c.new.ensures.fenced c.in_default.ensures (words_of vs c.loop-line.cursor.machine);
+      rest_kept = i.0;
+      lenders_kept = i.1;
     }

@@ -7,22 +7,22 @@ use Rattle.reader.proofs.Firsts.{no_items, none_next, one_whole, one_short}
 use Rattle.operands.proofs.Shapes.{guest_even}
 use Rattle.reader.proofs.readers.guest_call.Goals as goal
 
-pub returns-in-err-call : goal.returns-in-err-call
-returns-in-err-call c =
-    rw c.from-residual-in-err-call.ensures
-    (none_next guest_letter guest_rest c.in-ok-letter.letter (fields_of c.args.fields) (fields_of c.take.new.fields) (fields_of c.read-guest.new.fields)
-    c.in-ok-letter.ensures c.in-err-call.ensures)
+pub returns-in_err-call : goal.returns-in_err-call
+returns-in_err-call c =
+    rw c.from_residual-in_err-call.ensures
+    (none_next guest_letter guest_rest c.in_ok-letter.letter (fields_of c.args.fields) (fields_of c.take.new.fields) (fields_of c.read_guest.new.fields)
+    c.in_ok-letter.ensures c.in_err-call.ensures)
 
-pub returns-then-is-empty : goal.returns-then-is-empty
-returns-then-is-empty c =
-    let left = c.read-guest.new.fields in
-    one_whole guest_letter guest_rest c.in-ok-letter.letter (fields_of c.args.fields) (fields_of c.take.new.fields) (fields_of left)
-    c.in-ok-letter.ensures c.in-ok-call.call c.in-ok-call.ensures
-    (no_items left.line.now left.spots.now (true-eqb (length left.spots.now) 0 c.if-is-empty.ensures))
+pub returns-then-is_empty : goal.returns-then-is_empty
+returns-then-is_empty c =
+    let left = c.read_guest.new.fields in
+    one_whole guest_letter guest_rest c.in_ok-letter.letter (fields_of c.args.fields) (fields_of c.take.new.fields) (fields_of left)
+    c.in_ok-letter.ensures c.in_ok-call.call c.in_ok-call.ensures
+    (no_items left.line.now left.spots.now (true-eqb (length left.spots.now) 0 c.if-is_empty.ensures))
 
-pub returns-else-is-empty : goal.returns-else-is-empty
-returns-else-is-empty c =
-    let left = c.read-guest.new.fields in
-    one_short guest_letter guest_rest c.in-ok-letter.letter (fields_of c.args.fields) (fields_of c.take.new.fields) (fields_of left)
-    c.in-ok-letter.ensures c.in-ok-call.call c.in-ok-call.ensures
-    (λ e. false-eqb (length left.spots.now) 0 c.if-is-empty.ensures (sym (length-map left.spots.now (item_at left.line.now)) ∙ e)) guest_even
+pub returns-else-is_empty : goal.returns-else-is_empty
+returns-else-is_empty c =
+    let left = c.read_guest.new.fields in
+    one_short guest_letter guest_rest c.in_ok-letter.letter (fields_of c.args.fields) (fields_of c.take.new.fields) (fields_of left)
+    c.in_ok-letter.ensures c.in_ok-call.call c.in_ok-call.ensures
+    (λ e. false-eqb (length left.spots.now) 0 c.if-is_empty.ensures (sym (length-map left.spots.now (item_at left.line.now)) ∙ e)) guest_even

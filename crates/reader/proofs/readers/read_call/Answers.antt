@@ -20,8 +20,8 @@ returns-in-Some c =
     let found = c.in-Some.ensures in
     let ss = c.scan.new.spots in
     let n = c.in-Some.count in
-    let r = c.call-of.result in
+    let r = c.call_of.result in
     let long : length (items line (take n ss)) ≡ n = length-map (take n ss) (item_at line) ∙ length-take-le n ss found.within in
     let all : n - 0 ≡ n = omega arith in
     to_text line (items line (take n ss)) r found.text found.plain (omega (arith, found.some))
-    (subst (λ m. ReadsCall host_items guest_items (items line (take m ss)) r) all c.call-of.ensures)
+    (subst (λ m. ReadsCall host_items guest_items (items line (take m ss)) r) all c.call_of.ensures)
