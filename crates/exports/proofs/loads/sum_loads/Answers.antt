@@ -4,40 +4,40 @@ use Rattle.exports.proofs.Running.{host_accepted, host_refused, guest_refused, r
 use Rattle.exports.proofs.Agreeing.{sum_is_plain}
 use Rattle.exports.proofs.loads.sum_loads.Goals as goal
 
-pub returns-in-err-root : goal.returns-in-err-root
-returns-in-err-root g c =
+pub returns-in_err-root : goal.returns-in_err-root
+returns-in_err-root g c =
     let ws = g.M.Memory.words c.args.memory.now in
-    let guest = c.in-ok-decode.ensures.0 in
+    let guest = c.in_ok-decode.ensures.0 in
     let host =
-    host_refused ws c.new-host.result.roots c.root.new.self.roots c.args.registers.host c.in-err-root.field-0.0
-    (c.in-err-root.ensures ws) in
+    host_refused ws c.new-host.result.roots c.root.new.self.roots c.args.registers.host c.in_err-root.field-0.0
+    (c.in_err-root.ensures ws) in
     search rules
 
-pub returns-in-err-root-2 : goal.returns-in-err-root-2
-returns-in-err-root-2 g c =
+pub returns-in_err-root-2 : goal.returns-in_err-root-2
+returns-in_err-root-2 g c =
     let ws = g.M.Memory.words c.args.memory.now in
-    let guest = c.in-ok-decode.ensures.0 in
+    let guest = c.in_ok-decode.ensures.0 in
     let again =
-    guest_refused ws c.enter-guest.result.roots c.root-2.new.self.roots c.args.registers.guest c.in-err-root-2.field-0.0
-    (c.in-err-root-2.ensures ws) in
+    guest_refused ws c.enter-guest.result.roots c.root-2.new.self.roots c.args.registers.guest c.in_err-root-2.field-0.0
+    (c.in_err-root-2.ensures ws) in
     search rules
 
 pub returns : goal.returns
 returns g c =
     let ws = g.M.Memory.words c.args.memory.now in
-    let rooted = c.in-ok-root.ensures ws in
+    let rooted = c.in_ok-root.ensures ws in
     let agree =
     runs_agree g.T.Translator.book g.T.Translator.answers g.T.Translator.forgets g.T.Translator.clears
     g.met.T.Translator.answered g.met.T.Translator.fenced g.met.T.Translator.cleared in
     let run =
     runs_loads ws c.args.registers.guest c.args.registers.host c.new-host.result.roots c.root.new.self.roots c.enter-guest.result.roots
-    c.root-2.new.self.roots c.args.translator.now c.new-host.new.translator c.sum-words.new.translator c.args.addresses.now
-    c.sum-words.result (c.new-host.ensures.made ws) c.new-host.ensures.fenced rooted c.enter-guest.ensures (c.in-ok-root-2.ensures ws)
-    c.sum-words.ensures in
+    c.root-2.new.self.roots c.args.translator.now c.new-host.new.translator c.sum_words.new.translator c.args.addresses.now
+    c.sum_words.result (c.new-host.ensures.made ws) c.new-host.ensures.fenced rooted c.enter-guest.ensures (c.in_ok-root-2.ensures ws)
+    c.sum_words.ensures in
     let kept = host_accepted ws c.new-host.result.roots c.root.new.self.roots c.args.registers.host rooted in
     record {
       plain =
           sum_is_plain g.T.Translator agree c.args.translator.now ws c.args.registers.guest c.args.registers.host c.args.addresses.now
-          c.sum-words.result c.in-ok-decode.ensures.0 kept run;
+          c.sum_words.result c.in_ok-decode.ensures.0 kept run;
       run = run;
     }

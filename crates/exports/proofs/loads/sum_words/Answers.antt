@@ -11,8 +11,8 @@ pub loop-address-preserved : goal.loop-address-preserved
 loop-address-preserved g c =
     let below : c.loop-address.address-index < length c.args.addresses.now = omega arith in
     loads_more (guest_moment (g.M.Memory.words c.args.memory.now) c.args.side.now.roots) c.args.translator.now c.args.addresses.now
-    c.loop-address.address-index c.loop-address.translator c.loop-address.sum c.load-word-sum.new.translator c.load-word-sum.result
-    below c.loop-address.invariant c.load-word-sum.ensures
+    c.loop-address.address-index c.loop-address.translator c.loop-address.sum c.load_word-sum.new.translator c.load_word-sum.result
+    below c.loop-address.invariant c.load_word-sum.ensures
 
 pub returns : goal.returns
 returns g c =

@@ -2,9 +2,9 @@ use Rattle.std.proofs.Common.{Ok, Err, refl, rules}
 use Rattle.exports.specs.Plays.{PlaysOn}
 use Rattle.exports.proofs.plays.play_on.Goals as goal
 
-pub returns-in-default : goal.returns-in-default
+pub returns-in_default : goal.returns-in_default
 unfolding PlaysOn
-returns-in-default g c = search rules
+returns-in_default g c = search rules
 
 pub returns-in-Ok-play : goal.returns-in-Ok-play
 unfolding PlaysOn
