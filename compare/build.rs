@@ -8,8 +8,8 @@ fn main() {
     if std::env::var_os("CARGO_FEATURE_PROVED").is_none() {
         return;
     }
-    let folder = PathBuf::from(env!("CARGO_MANIFEST_DIR")).join("../target/staticlib");
-    link(&folder, "exports", "run `rt staticlib exports` at the repository's root first");
+    let folder = PathBuf::from(env!("CARGO_MANIFEST_DIR")).join("../crates/exports/out");
+    link(&folder, "exports", "run `rt lib` in crates/exports first");
     let kit = kit().unwrap_or_else(|| panic!("no kit: `rt doc` must print the path of its guide"));
     link(&kit.join("lib"), "rattle_c", "the kit must have its C code there, which allocates and frees");
 }

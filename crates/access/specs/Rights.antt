@@ -1,5 +1,5 @@
 -- What the leaves of the two stages allow.
-use Rattle.std.specs.Prelude.{Bool, true, false, not, ◌&&◌, ◌||◌, ℕ}
+use Rattle.std.specs.Prelude.{Bool, false, not, ◌&&◌, ◌||◌, ℕ}
 use Rattle.entry.specs.Entry.{is_readable, is_writable, is_executable, is_user, is_accessed, is_dirty}
 use Rattle.access.specs.declared.accesses.Kind.{Kind}
 use Rattle.access.specs.declared.accesses.Kind.TheVariants.{Load, Store, Fetch}

@@ -1,4 +1,5 @@
 //! Accesses of one word, and what the leaves of the two stages allow of them.
+#![tactic(auto)]
 
 mod accesses;
 mod rights;

@@ -1,4 +1,6 @@
 //! The calls that a machine takes, and its answers.
+#![tactic(auto)]
+
 ghost use Rattle.std.specs.Prelude.{◌≡◌};
 ghost use Rattle.calls.specs.Targets.{access_of};
 ghost use Rattle.calls.specs.Answers.{word_or_refusal, done_or_refusal, word_or_fault, done_or_fault};

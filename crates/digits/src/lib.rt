@@ -1,4 +1,5 @@
 //! Numbers as text: hexadecimal with a fixed number of digits, and decimal with no leading zero.
+#![tactic(auto)]
 
 mod decimals;
 mod hexadecimals;

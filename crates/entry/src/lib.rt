@@ -1,4 +1,5 @@
 //! Page-table entries, the numbers of frames and pages, and fields of numbers.
+#![tactic(auto)]
 
 mod bits;
 mod entries;

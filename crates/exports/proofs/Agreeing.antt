@@ -11,7 +11,6 @@ use Rattle.translator.specs.Rules.{walked_to}
 use Rattle.calls.specs.declared.Target.{Target}
 use Rattle.calls.specs.declared.HostCall.TheVariants as host_call
 use Rattle.calls.specs.declared.GuestCall.TheVariants as guest_call
-use Rattle.calls.specs.declared.Call.{Call}
 use Rattle.calls.specs.declared.Call.TheVariants.{Host, Guest}
 use Rattle.calls.specs.declared.Answer.TheVariants.{Done}
 use Rattle.calls.specs.Targets.{access_of}

@@ -2,6 +2,7 @@
 //!
 //! A slice is a pointer and a length, and a `Global` takes no bytes, so that C passes nothing for it. Nothing holds C to
 //! what a reference promises: it owes slices that are there and aligned, and none that is written may overlap another.
+#![tactic(auto)]
 
 mod loads;
 mod plays;

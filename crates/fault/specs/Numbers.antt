@@ -1,13 +1,10 @@
 -- A fault as the six numbers of a report: cause, virtual address, guest-physical address, stage, guest level, host level.
 use Rattle.std.specs.Prelude.{ℕ, ◌/◌}
-use Rattle.table.specs.declared.walks.WalkFault.{WalkFault}
 use Rattle.table.specs.declared.walks.WalkFault.TheVariants.{Source, Stopped}
-use Rattle.memory.specs.declared.Outside.{Outside}
 use Rattle.access.specs.declared.accesses.Kind.{Kind}
 use Rattle.access.specs.declared.accesses.Kind.TheVariants.{Load, Store, Fetch}
 use Rattle.fault.specs.declared.faults.HostFault.{HostFault}
 use Rattle.fault.specs.declared.faults.HostFault.TheVariants.{OutOfRange, Walk, Denied, Word}
-use Rattle.fault.specs.declared.faults.Unreached.{Unreached}
 use Rattle.fault.specs.declared.faults.GuestFault.{GuestFault}
 use Rattle.fault.specs.declared.faults.GuestFault.TheVariants as guest
 use Rattle.fault.specs.declared.faults.Fault.{Fault}

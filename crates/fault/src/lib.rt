@@ -1,4 +1,5 @@
 //! Faults, nested as they happen, and the six numbers of each.
+#![tactic(auto)]
 
 mod faults;
 mod numbers;

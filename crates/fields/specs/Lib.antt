@@ -1,2 +1,3 @@
 pub mod Keys
 pub mod Fields
+pub mod Cursors

@@ -9,7 +9,6 @@ use Rattle.fault.specs.declared.faults.Fault.{Fault}
 use Rattle.access.specs.Accesses.{word_of}
 use Rattle.registers.specs.Registers.{is_guest_root, is_host_root}
 use Rattle.stages.specs.Stages.{World}
-use Rattle.translator.specs.declared.fences.Fence.{Fence}
 use Rattle.translator.specs.Rules.{walked_to}
 use Rattle.calls.specs.declared.HostCall.{HostCall}
 use Rattle.calls.specs.declared.HostCall.TheVariants as host_call

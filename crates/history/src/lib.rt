@@ -1,4 +1,5 @@
 //! What runs of a machine promise, over any translator: the plain machine, settled calls, and the agreement theorem.
+#![tactic(auto)]
 
 mod laws;
 mod runs;

@@ -1,4 +1,6 @@
 //! Lists of calls that are settled or not, worked to the end.
+#![tactic(auto)]
+
 ghost use Rattle.history_examples.specs.Editing.{FencedAnswers, FencedSettled, UnfencedUnsettled, UnfencedStale};
 
 /// What the plain machine answers to the calls with the fence.

@@ -1,4 +1,5 @@
 //! Judges a trace before anything is played: its header, how many calls it has, and the room that their report takes.
+#![tactic(auto)]
 
 mod inputs;
 mod judges;

@@ -1,5 +1,5 @@
 -- What each call leaves in the pool, word by word.
-use Rattle.std.specs.Prelude.{ℕ, zero, suc, ◌+◌, ◌*◌, Bool, cond, List, [], ◌∷◌, set, ◌==◌, nat_le, nat_lt, slice_set}
+use Rattle.std.specs.Prelude.{ℕ, zero, suc, ◌+◌, ◌*◌, Bool, cond, List, [], ◌∷◌, ◌==◌, nat_le, nat_lt, slice_set}
 use Rattle.layout.specs.Tables.{frames, next, names, table, path_of, leaf_table, leaf_place}
 
 -- count words from start on set to 0

@@ -1,4 +1,5 @@
 //! Grants as leaves of the tables in a pool: the entry of a grant, the grant that answers an access, and what a fence clears.
+#![tactic(auto)]
 
 mod entries;
 mod fences;

@@ -1,4 +1,5 @@
 //! The machine: one call at a time, whichever side it is for, and whole lists of calls.
+#![tactic(auto)]
 
 mod machines;
 mod runs;

@@ -1,4 +1,6 @@
 //! Memories of 64-bit words in whole frames: words handed in, bytes handed in, two memories joined, and a memory lent.
+#![tactic(auto)]
+
 ghost use Rattle.std.specs.Prelude.{◌≡◌, ℕ, ◌*◌, ◌≤◌, List, length, slice_set};
 ghost use Rattle.memory.specs.Words.{read_of, write_of};
 

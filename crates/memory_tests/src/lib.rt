@@ -1,4 +1,6 @@
 //! Tests of memories at their boundaries.
+#![tactic(auto)]
+
 use memory::{Bytes, Joined, Memory, Outside, Words};
 use std::alloc::{AllocError, Global};
 use std::test::Fail;

@@ -1,4 +1,5 @@
 //! Reads the fields of a call that follow its letter.
+#![tactic(auto)]
 
 mod reads;
 

@@ -1,4 +1,6 @@
 //! The piles of translators that machines are made over.
+#![tactic(auto)]
+
 ghost use Rattle.std.specs.Prelude.{IfOk};
 ghost use Rattle.piles.specs.Piles.{IsNested, NewShadow, NewTlb};
 

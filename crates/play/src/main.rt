@@ -1,4 +1,6 @@
 //! Plays the trace on standard input over each machine in turn, from zero words, and prints their reports.
+#![tactic(auto)]
+
 use judging::{Plan, judge_input};
 use piles::{new_shadow, new_tlbs};
 use player::play;

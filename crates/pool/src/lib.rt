@@ -1,4 +1,5 @@
 //! Page tables in a pool of words: one tree for each ASID, found by the walk, grown, cleared and reset.
+#![tactic(auto)]
 
 mod changes;
 mod finds;

@@ -6,7 +6,6 @@ use Rattle.fields.specs.declared.tags.Tag.TheVariants.{Op, Data}
 use Rattle.spots.specs.Scans.{Item}
 use Rattle.access.specs.declared.accesses.Mode.{Mode}
 use Rattle.access.specs.declared.accesses.Mode.TheVariants.{Supervisor, User}
-use Rattle.translator.specs.declared.fences.Fence.{Fence}
 use Rattle.calls.specs.declared.Target.{Target}
 use Rattle.calls.specs.declared.HostCall.{HostCall}
 use Rattle.calls.specs.declared.HostCall.TheVariants as host

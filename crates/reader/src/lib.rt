@@ -1,4 +1,5 @@
 //! Reads the lines of a trace: a call from each line after the header.
+#![tactic(auto)]
 
 mod laws;
 mod readers;

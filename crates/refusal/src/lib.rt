@@ -1,4 +1,6 @@
 //! What is refused, and the number that each refusal has.
+#![tactic(auto)]
+
 ghost use Rattle.std.specs.Prelude.{◌≡◌};
 ghost use Rattle.refusal.specs.Numbers.{number_of};
 

@@ -1,4 +1,5 @@
 //! The two root registers: their layouts, and the tables that they name.
+#![tactic(auto)]
 
 mod guest_roots;
 mod host_roots;

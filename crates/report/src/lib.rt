@@ -1,4 +1,6 @@
 //! The lines of a report, written into bytes that are lent.
+#![tactic(auto)]
+
 ghost use Rattle.std.specs.Prelude.{◌≡◌, ◌+◌, ◌≤◌, length, decimal};
 ghost use Rattle.digits.specs.Hexadecimal.{hex_of};
 ghost use Rattle.report.specs.Lines.{numbers_text, answer_text, answer_line};

@@ -1,4 +1,5 @@
 //! Prints the worked examples: loads by the two-stage walk, and calls of a machine over a buffer.
+#![tactic(auto)]
 
 mod lines;
 mod remembered;

@@ -1,4 +1,6 @@
 //! The first item of a slice that matches a query.
+#![tactic(auto)]
+
 ghost use Rattle.std.specs.Prelude.{Decides};
 ghost use Rattle.search.specs.First.{Found};
 

@@ -1,16 +1,12 @@
 -- What the steps of a shadow come to on its book.
-use Rattle.std.proofs.Common.{◌≡◌, ℕ, ◌/◌, ◌^◌, ◌<◌, ◌≤◌, Bool, true, ◌&&◌, eqb, ltb, leb, ◌↔◌, List, [], length, Some, None, vec_items, sym, refl, ap, ◌∙◌, subst, inl, inr, arith}
+use Rattle.std.proofs.Common.{◌≡◌, ℕ, ◌/◌, ◌^◌, ◌<◌, Bool, true, ◌&&◌, eqb, leb, ◌↔◌, List, [], length, Some, None, vec_items, sym, refl, ap, ◌∙◌, subst, inl, inr, arith}
 use Rattle.std.specs.List.{ContainsAt as Has}
 use Rattle.std.proofs.ByRecursion.{all-has}
 use Rattle.std.proofs.lemmas.Bool.{cases_eq, cases_Bool, cond-true, cond-false, lt-ltb, ltb-true, leb-true, eqb-true, and_parts, or_cases}
 use Rattle.registers.specs.Registers.{is_paged, asid_of}
-use Rattle.stages.specs.Stages.{World}
 use Rattle.translator.specs.declared.grants.Grant.{Grant}
-use Rattle.translator.specs.declared.fences.Fence.{Fence}
-use Rattle.translator.specs.Truth.{Fullest}
 use Rattle.translator.specs.Fences.{covers_grant}
 use Rattle.layout.specs.Changes.{has_room, inserted}
-use Rattle.layout.specs.Sound.{Sound}
 use Rattle.layout.specs.Finds.{found}
 use Rattle.layout.proofs.Holds.{inserts}
 use Rattle.pool.proofs.Fields.{sound_of}
@@ -19,9 +15,8 @@ use Rattle.leaves.specs.Lookups.{grant_at}
 use Rattle.leaves.proofs.Words.{word_read, word_write, word_fetch, word_user, word_frame, word_leaf}
 use Rattle.shadow.specs.declared.stores.Store.{Store}
 use Rattle.shadow.specs.declared.stores.Store.TheVariants.{Idle, Working}
-use Rattle.shadow.specs.Steps.{is_kept}
 use Rattle.shadow.specs.Book.{book_of}
-use Rattle.shadow.specs.Shadows.{grants_of, Forgets}
+use Rattle.shadow.specs.Shadows.{grants_of}
 use Rattle.shadow.specs.Laws.{KeptByRights, without_global, Filled, FillsExactly, FencesExactly}
 use Rattle.shadow.specs.Books.{some_none, held, book_all, book_has, booked}
 use Rattle.shadow.specs.Fullest.{fullest_canonical, fullest_reads, walked_fullest}

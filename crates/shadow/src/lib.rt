@@ -1,4 +1,5 @@
 //! The translator that keeps Sv39 tables in a pool of words, one tree for each ASID.
+#![tactic(auto)]
 
 mod accesses;
 mod laws;

@@ -1,4 +1,5 @@
 //! Where the values of a line's fields stand, and reading them in their order.
+#![tactic(auto)]
 
 mod reads;
 mod scans;

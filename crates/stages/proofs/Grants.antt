@@ -1,21 +1,18 @@
 -- An access is granted exactly where its page has a path whose leaves allow it.
-use Rattle.std.proofs.Common.{◌≡◌, ℕ, Bool, true, false, cond, ◌↔◌, Some, None, Ok, Err, Option, Result, sym, refl, ap, ◌∙◌, subst, arith}
+use Rattle.std.proofs.Common.{◌≡◌, ℕ, Bool, true, false, cond, ◌↔◌, Some, None, Ok, Err, Option, Result, refl, ap, ◌∙◌, subst, arith}
 use Rattle.std.specs.Result.{result_map_both}
 use Rattle.std.proofs.lemmas.Bool.{cond-true}
 use Rattle.table.specs.declared.walks.Leaf.{Leaf}
 use Rattle.access.specs.declared.accesses.Access.{Access}
-use Rattle.fault.specs.declared.faults.HostFault.{HostFault}
 use Rattle.fault.specs.declared.faults.HostFault.TheVariants as host
-use Rattle.fault.specs.declared.faults.Unreached.{Unreached}
-use Rattle.fault.specs.declared.faults.GuestFault.{GuestFault}
 use Rattle.fault.specs.declared.faults.GuestFault.TheVariants as guest
 use Rattle.stages.specs.declared.landings.Landing.{Landing}
 use Rattle.stages.specs.declared.outcomes.Translation.{Translation}
-use Rattle.access.specs.Accesses.{page_of, word_of, is_aligned}
+use Rattle.access.specs.Accesses.{page_of, is_aligned}
 use Rattle.access.specs.Rights.{host_allows, guest_allows}
 use Rattle.stages.specs.Host.{and_then, judged, judged_by, unreached, host_path, host_stage, is_inside, inside_of, host_reach}
 use Rattle.stages.specs.Stages.{World, guest_path, guest_stage, final_stage, physical_of, translation, two_stages, fault_of, translate_of}
-use Rattle.stages.specs.Paths.{Path, passes, Granted}
+use Rattle.stages.specs.Paths.{passes, Granted}
 
 -- what a chain of stages gave, its first part gave, and the rest went on from there
 then_ok : {X Y E : Type 0} (r : Result X E) (next : X → Result Y E) (y : Y) → and_then r next ≡ Ok y → (x : X) × (r ≡ Ok x) × (next x ≡ Ok y)

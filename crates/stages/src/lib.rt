@@ -1,4 +1,5 @@
 //! The two-stage walk, and what an access comes to.
+#![tactic(auto)]
 
 mod hosts;
 mod landings;

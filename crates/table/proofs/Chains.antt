@@ -1,11 +1,11 @@
 -- A walk follows the chain: from each table that the chain reaches, it is the walk of that table, and where it ends the chain ends.
-use Rattle.std.proofs.Common.{◌≡◌, ℕ, zero, suc, ◌<◌, Bool, true, false, cond, ◌||◌, ◌↔◌, Ok, Err, Result, sym, refl, ap, ◌∙◌, subst, arith}
+use Rattle.std.proofs.Common.{◌≡◌, ℕ, zero, suc, ◌<◌, Bool, true, false, ◌||◌, Ok, Err, Result, refl, ◌∙◌, subst, arith}
 use Rattle.std.proofs.lemmas.Bool.{cond_both}
 use Rattle.table.specs.declared.walks.Leaf.{Leaf}
 use Rattle.table.specs.declared.walks.WalkFault.{WalkFault}
 use Rattle.table.specs.declared.walks.WalkFault.TheVariants.{Source, Stopped}
 use Rattle.entry.specs.Entry.{is_global, is_pointer, frame_of, stops}
-use Rattle.table.specs.Walk.{word_of, leaf_of, on_word, walk_from, walk_of}
+use Rattle.table.specs.Walk.{word_of, on_word, walk_from, walk_of}
 use Rattle.table.specs.Chain.{Reached, first, below, LeadsTo, StopsAt, LacksAt, FollowsChain}
 use Rattle.table.proofs.Descents.{at_lack, at_stop, at_pointer, at_leaf, points_above}
 

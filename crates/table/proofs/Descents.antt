@@ -1,8 +1,8 @@
 -- One level of a walk, by what was read there.
-use Rattle.std.proofs.Common.{◌≡◌, ℕ, zero, suc, ◌+◌, ◌-◌, ◌*◌, ◌^◌, ◌<◌, Bool, true, false, cond, ◌||◌, eqb, Ok, Err, Result, sym, refl, ap, ◌∙◌, arith}
+use Rattle.std.proofs.Common.{◌≡◌, ℕ, suc, ◌-◌, ◌<◌, Bool, true, false, ◌||◌, Ok, Err, Result, sym, arith}
 use Rattle.std.proofs.lemmas.Bool.Decides.{nat_tests}
 use Rattle.table.specs.declared.walks.WalkFault.TheVariants.{Source, Stopped}
-use Rattle.entry.specs.Entry.{is_malformed, is_marked, is_misaligned, is_global, is_pointer, frame_of, stops}
+use Rattle.entry.specs.Entry.{is_misaligned, is_global, is_pointer, frame_of, stops}
 use Rattle.table.specs.Walk.{word_of, leaf_of, walk_from}
 
 -- a pointer of level 0 stops the walk

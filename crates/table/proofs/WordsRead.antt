@@ -1,5 +1,5 @@
 -- The words that a walk reads: they decide the walk, and there is at most one of each level.
-use Rattle.std.proofs.Common.{◌≡◌, ℕ, zero, suc, ◌+◌, ◌≤◌, Bool, true, false, cond, ◌||◌, List, [], ◌∷◌, length, Ok, Err, Result, sym, refl, ap, ◌∙◌, arith}
+use Rattle.std.proofs.Common.{◌≡◌, ℕ, zero, suc, ◌≤◌, Bool, true, false, cond, ◌||◌, List, [], length, Ok, Err, Result, refl, ap, ◌∙◌, arith}
 use Rattle.std.specs.List.{AllByRecursion as All}
 use Rattle.entry.specs.Entry.{is_global, is_pointer, frame_of, stops}
 use Rattle.table.specs.Walk.{word_of, words_after, words_from, on_word, walk_from}

@@ -1,7 +1,6 @@
 -- What holds of every walk.
-use Rattle.std.specs.Prelude.{◌≡◌, ℕ, suc, ◌≤◌, length, Ok, Result}
+use Rattle.std.specs.Prelude.{◌≡◌, ℕ, suc, ◌≤◌, length, Result}
 use Rattle.std.specs.List.{AllByRecursion as All}
-use Rattle.table.specs.declared.walks.Leaf.{Leaf}
 use Rattle.table.specs.Walk.{walk_of, words_of}
 
 -- sources that agree on the words that a walk reads give the same walk

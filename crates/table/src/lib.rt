@@ -1,4 +1,5 @@
 //! One walk over any source of table words.
+#![tactic(auto)]
 
 mod laws;
 mod walks;

@@ -1,5 +1,5 @@
 -- Sixteen sets: a page belongs to the set of its number mod 16.
-use Rattle.std.specs.Prelude.{◌≡◌, ℕ, ◌%◌, ◌<◌, cond, List, [], map, get_or, set, replicate, Some, None, Option, slice_index_or, slice_set}
+use Rattle.std.specs.Prelude.{◌≡◌, ℕ, ◌%◌, ◌<◌, cond, List, [], map, get_or, replicate, Some, None, Option, slice_index_or, slice_set}
 use Rattle.std.specs.List.{flat_map, ContainsAt as Has}
 use Rattle.access.specs.declared.accesses.Access.{Access}
 use Rattle.access.specs.Accesses.{page_of}

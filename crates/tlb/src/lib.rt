@@ -1,4 +1,5 @@
 //! A translation look-aside buffer over any translator: sixteen sets of four ways.
+#![tactic(auto)]
 
 mod layers;
 mod sets;

@@ -1,4 +1,5 @@
 //! The text of a trace: its lines, its header, and texts cut at a mark.
+#![tactic(auto)]
 
 mod headers;
 mod laws;

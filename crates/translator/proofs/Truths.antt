@@ -1,24 +1,19 @@
 -- What a true grant says of the walk: the facts on which everything above rests.
-use Rattle.std.proofs.Common.{◌≡◌, ℕ, Bool, true, false, cond, ◌&&◌, ◌||◌, Some, None, Ok, Err, Option, Result, sym, refl, ap, ◌∙◌, subst, arith}
+use Rattle.std.proofs.Common.{◌≡◌, ℕ, true, ◌||◌, Some, Ok, sym, refl, ap, ◌∙◌, subst}
 use Rattle.std.specs.Result.{result_map_both}
-use Rattle.std.proofs.lemmas.Bool.{cases_Bool, and_parts, and_from, or_left}
-use Rattle.table.specs.declared.walks.Leaf.{Leaf}
+use Rattle.std.proofs.lemmas.Bool.{and_parts, and_from, or_left}
 use Rattle.entry.specs.Entry.{is_user}
 use Rattle.access.specs.declared.accesses.Access.{Access}
-use Rattle.access.specs.declared.accesses.Kind.{Kind}
-use Rattle.access.specs.declared.accesses.Kind.TheVariants.{Load, Store, Fetch}
-use Rattle.fault.specs.declared.faults.GuestFault.{GuestFault}
-use Rattle.stages.specs.declared.landings.Landing.{Landing}
 use Rattle.stages.specs.declared.outcomes.Translation.{Translation}
 use Rattle.access.specs.Accesses.{page_of, word_of, is_aligned}
 use Rattle.registers.specs.Registers.{is_paged, asid_of}
-use Rattle.access.specs.Rights.{gives, host_allows, user_allows, guest_allows, mxr_gives}
-use Rattle.stages.specs.Stages.{World, guest_path, translate_of}
+use Rattle.access.specs.Rights.{gives, host_allows, user_allows, mxr_gives}
+use Rattle.stages.specs.Stages.{World}
 use Rattle.stages.specs.Paths.{Path, passes, Granted}
 use Rattle.stages.proofs.Grants.{granted}
 use Rattle.translator.specs.declared.grants.Grant.{Grant}
 use Rattle.translator.specs.Grants.{has_right, allows}
-use Rattle.translator.specs.Truth.{both_give, Named, True, Fullest, global_by, is_global_walk}
+use Rattle.translator.specs.Truth.{True, Fullest, global_by, is_global_walk}
 use Rattle.translator.specs.Rules.{walked_to}
 
 pub fullest_true : (w : World) (g : Grant) → Fullest w g → True w g

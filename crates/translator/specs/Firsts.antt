@@ -1,9 +1,7 @@
 -- The first item that passes a test, and the grant that answers.
-use Rattle.std.specs.Prelude.{◌≡◌, Bool, true, false, cond, List, [], ◌∷◌, ◌++◌, Some, None, Option, refl}
-use Rattle.std.proofs.Common.{ap, ◌∙◌}
+use Rattle.std.specs.Prelude.{◌≡◌, Bool, true, false, cond, [], None, refl}
 use Rattle.access.specs.declared.accesses.Access.{Access}
 use Rattle.stages.specs.Stages.{World}
-use Rattle.translator.specs.declared.grants.Grant.{Grant}
 use Rattle.translator.specs.Grants.{first_of, consults, answering}
 
 cond_same : {X : Type 0} (b : Bool) (x : X) → cond b x x ≡ x

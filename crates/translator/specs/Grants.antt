@@ -1,5 +1,5 @@
 -- What a remembered grant answers: which accesses it matches, what it allows, and which grant of a book comes first.
-use Rattle.std.specs.Prelude.{ℕ, Bool, true, false, cond, ◌&&◌, ◌||◌, List, [], ◌∷◌, Some, None, Option, ◌==◌}
+use Rattle.std.specs.Prelude.{ℕ, Bool, cond, ◌&&◌, ◌||◌, List, [], ◌∷◌, Some, None, Option, ◌==◌}
 use Rattle.access.specs.declared.accesses.Kind.{Kind}
 use Rattle.access.specs.declared.accesses.Kind.TheVariants.{Load, Store, Fetch}
 use Rattle.access.specs.declared.accesses.Access.{Access}

@@ -1,5 +1,5 @@
 -- The rules that every translator keeps, on its book: an ordered list of grants.
-use Rattle.std.specs.Prelude.{◌≡◌, ℕ, false, ◌⊎◌, List, [], Some, None, Ok, Err, Option, Result}
+use Rattle.std.specs.Prelude.{◌≡◌, ℕ, false, ◌⊎◌, List, Some, None, Ok, Option, Result}
 use Rattle.std.specs.Result.{result_map_both}
 use Rattle.std.specs.List.{ContainsAt as Has, AllByRecursion as All}
 use Rattle.access.specs.declared.accesses.Access.{Access}

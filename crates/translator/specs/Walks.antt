@@ -1,5 +1,5 @@
 -- The walk's own reply keeps the rules wherever no grant answers.
-use Rattle.std.specs.Prelude.{◌≡◌, ℕ, Bool, true, false, cond, ◌⊎◌, List, [], Some, None, Ok, Err, Option, Result, refl}
+use Rattle.std.specs.Prelude.{◌≡◌, ℕ, true, false, ◌⊎◌, List, Some, None, Ok, Err, Option, Result, refl}
 use Rattle.std.proofs.Common.{sym, ap, subst, ◌∙◌, inl, inr, arith}
 use Rattle.std.specs.Result.{result_map_both}
 use Rattle.std.specs.List.{ContainsAt as Has}
@@ -18,7 +18,6 @@ use Rattle.stages.specs.Stages.{World, guest_path, translate_of}
 use Rattle.stages.specs.Paths.{Path}
 use Rattle.stages.proofs.Grants.{granted}
 use Rattle.translator.specs.declared.grants.Grant.{Grant}
-use Rattle.translator.specs.declared.replies.Reply.{Reply}
 use Rattle.translator.specs.Grants.{has_right, answering}
 use Rattle.translator.specs.Truth.{both_give, Fullest}
 use Rattle.translator.specs.Walked.{full_grant, grant_by, grant_of, reply_of, walked_reply}

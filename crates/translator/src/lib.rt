@@ -1,4 +1,5 @@
 //! Grants, fences, the rules that every translator keeps, and the translator that remembers nothing.
+#![tactic(auto)]
 
 mod fences;
 mod grants;

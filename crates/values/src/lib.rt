@@ -1,4 +1,5 @@
 //! The values of fields: each is read by the text that it is written as.
+#![tactic(auto)]
 
 mod numbers;
 mod signs;

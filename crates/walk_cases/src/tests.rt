@@ -8,7 +8,7 @@ use registers::{GuestRoot, HostRoot, Roots};
 use stages::{Translation, translate};
 use std::alloc::Global;
 use std::process::Abort;
-use std::test::*;
+use std::test::Fail;
 use table::Leaf;
 
 // The frames of the deep memory.
@@ -35,8 +35,13 @@ type Grant = (u16, u16, Option<u8>, Option<u8>, bool);
 // The six numbers of a fault.
 type SixNumbers = (u8, u64, u64, u8, u8, u8);
 
-// Whether an access was granted, and so.
-fn check_grant(found: Result<Translation, Fault>, expected: Grant) -> Result<(), Fail> {
+// Whether the access of a step was granted, and so.
+fn check_grant(
+    rt: &impl Abort,
+    number: usize,
+    found: Result<Translation, Fault>,
+    expected: Grant,
+) -> Result<(), Fail> {
     let Ok(granted) = found else {
         return Err(Fail::new("it faulted"));
     };
@@ -46,15 +51,18 @@ fn check_grant(found: Result<Translation, Fault>, expected: Grant) -> Result<(),
     };
     let guest = level(granted.guest);
     let host = level(granted.host);
-    assert_eq!(
-        (granted.frame, granted.word, guest, host, is_global),
-        expected
-    );
+    let found = (granted.frame, granted.word, guest, host, is_global);
+    assert_eq!(rt; found, expected, "step {number}");
     Ok(())
 }
 
-// Whether an access faulted, and so.
-fn check_fault(found: Result<Translation, Fault>, expected: SixNumbers) -> Result<(), Fail> {
+// Whether the access of a step faulted, and so.
+fn check_fault(
+    rt: &impl Abort,
+    number: usize,
+    found: Result<Translation, Fault>,
+    expected: SixNumbers,
+) -> Result<(), Fail> {
     let Err(fault) = found else {
         return Err(Fail::new("it was granted"));
     };
@@ -67,12 +75,14 @@ fn check_fault(found: Result<Translation, Fault>, expected: SixNumbers) -> Resul
         is.guest_level,
         is.host_level,
     );
-    assert_eq!(found, expected);
+    assert_eq!(rt; found, expected, "step {number}");
     Ok(())
 }
 
-// Makes an access, and compares what it comes to.
+// Makes the access of a step, and compares what it comes to.
 fn try_access<M: Memory>(
+    rt: &impl Abort,
+    number: usize,
     memory: &M,
     roots: Roots,
     access: Access,
@@ -81,15 +91,19 @@ fn try_access<M: Memory>(
     let found = translate(memory, roots, access);
     match expected {
         Answer::Granted(frame, word, guest, host) => check_grant(
+            rt,
+            number,
             found,
             (frame, word, guest, host, false),
         ),
         Answer::Global(frame, word, guest, host) => check_grant(
+            rt,
+            number,
             found,
             (frame, word, guest, host, true),
         ),
         Answer::Faulted(cause, physical, stage, guest, host) => {
-            check_fault(found, (cause, access.address, physical, stage, guest, host))
+            check_fault(rt, number, found, (cause, access.address, physical, stage, guest, host))
         }
     }
 }
@@ -122,8 +136,15 @@ impl Bench {
         Ok(())
     }
 
-    // Makes an access.
-    fn ask(&mut self, ask: Ask, address: u64, expected: Answer) -> Result<(), Fail> {
+    // Makes the access of a step.
+    fn ask(
+        &mut self,
+        rt: &impl Abort,
+        number: usize,
+        ask: Ask,
+        address: u64,
+        expected: Answer,
+    ) -> Result<(), Fail> {
         let Ask(kind, mode, sum, mxr) = ask;
         let access = Access {
             kind,
@@ -135,11 +156,17 @@ impl Bench {
         let memory = Words {
             words: self.words.as_mut_slice(),
         };
-        try_access(&memory, self.roots, access, expected)
+        try_access(rt, number, &memory, self.roots, access, expected)
     }
 
     // Goes one step.
-    fn go(&mut self, heap: Global, step: Step) -> Result<(), Fail> {
+    fn go(
+        &mut self,
+        rt: &impl Abort,
+        heap: Global,
+        number: usize,
+        step: Step,
+    ) -> Result<(), Fail> {
         match step {
             Step::Zeros(frames, guest, host) => {
                 *self = begin(heap, frames, guest, host)?;
@@ -150,49 +177,49 @@ impl Bench {
                 self.put_deep()
             }
             Step::Put(address, word) => self.put(address, word),
-            Step::Try(ask, address, expected) => self.ask(ask, address, expected),
+            Step::Try(ask, address, expected) => self.ask(rt, number, ask, address, expected),
         }
     }
 }
 
 // Goes over a table, whose steps are counted from 0.
-fn go_over(heap: Global, table: &[Step]) -> Result<(), Fail> {
+fn go_over(rt: &impl Abort, heap: Global, table: &[Step]) -> Result<(), Fail> {
     let mut bench = begin(heap, 0, 0, 0)?;
     for (number, step) in table.iter().enumerate() {
-        bench.go(heap, *step).note(format_args!("step {number}"))?;
+        bench.go(rt, heap, number, *step)?;
     }
     Ok(())
 }
 
 #[test]
 fn addresses(rt: HostRuntime) -> Result<(), Fail> {
-    go_over(rt.alloc(), &ADDRESSES)
+    go_over(&rt, rt.alloc(), &ADDRESSES)
 }
 
 #[test]
 fn rights(rt: HostRuntime) -> Result<(), Fail> {
-    go_over(rt.alloc(), &RIGHTS)
+    go_over(&rt, rt.alloc(), &RIGHTS)
 }
 
 #[test]
 fn entries(rt: HostRuntime) -> Result<(), Fail> {
-    go_over(rt.alloc(), &ENTRIES)
+    go_over(&rt, rt.alloc(), &ENTRIES)
 }
 
 #[test]
 fn levels(rt: HostRuntime) -> Result<(), Fail> {
-    go_over(rt.alloc(), &LEVELS)
+    go_over(&rt, rt.alloc(), &LEVELS)
 }
 
 // Whether a register is the guest's root, or is refused as that.
 fn check_guest(rt: &impl Abort, register: u64, is_good: bool) -> Result<(), Fail> {
     match GuestRoot::decode(register) {
         Ok(root) => {
-            assert!(rt; is_good && root.register == register);
+            assert!(rt; is_good && root.register == register, "guest root {register:#x}");
             Ok(())
         },
         Err(refusal) => {
-            assert!(rt; !is_good && refusal.number() == 3);
+            assert!(rt; !is_good && refusal.number() == 3, "guest root {register:#x}");
             Ok(())
         },
     }
@@ -202,11 +229,11 @@ fn check_guest(rt: &impl Abort, register: u64, is_good: bool) -> Result<(), Fail
 fn check_host(rt: &impl Abort, register: u64, is_good: bool) -> Result<(), Fail> {
     match HostRoot::decode(register) {
         Ok(root) => {
-            assert!(rt; is_good && root.register == register);
+            assert!(rt; is_good && root.register == register, "host root {register:#x}");
             Ok(())
         },
         Err(refusal) => {
-            assert!(rt; !is_good && refusal.number() == 4);
+            assert!(rt; !is_good && refusal.number() == 4, "host root {register:#x}");
             Ok(())
         },
     }
@@ -215,8 +242,8 @@ fn check_host(rt: &impl Abort, register: u64, is_good: bool) -> Result<(), Fail>
 // Goes over a table of registers.
 fn check_all(rt: &impl Abort, table: &[Register]) -> Result<(), Fail> {
     for Register(register, guest, host) in table {
-        check_guest(rt, *register, *guest).note(format_args!("guest root {register:#x}"))?;
-        check_host(rt, *register, *host).note(format_args!("host root {register:#x}"))?;
+        check_guest(rt, *register, *guest)?;
+        check_host(rt, *register, *host)?;
     }
     Ok(())
 }

@@ -1,5 +1,5 @@
 -- The worked examples: walks as equations, and a machine over a buffer.
-use Rattle.std.specs.Prelude.{◌≡◌, ℕ, false, List, set, replicate, Ok, Err, Result, slice_set}
+use Rattle.std.specs.Prelude.{◌≡◌, ℕ, false, replicate, Ok, Err, Result, slice_set}
 use Rattle.std.specs.Result.{result_map_both}
 use Rattle.access.specs.declared.accesses.Kind.TheVariants.{Load}
 use Rattle.access.specs.declared.accesses.Mode.{Mode}

@@ -1,4 +1,6 @@
 //! The worked examples: walks of a memory, and a machine over a buffer that remembers.
+#![tactic(auto)]
+
 ghost use Rattle.std.specs.Prelude.{◌≡◌, IfOk};
 ghost use Rattle.history_examples.specs.Editing.{target};
 ghost use Rattle.worked.specs.Examples.{two_frames, Examples};

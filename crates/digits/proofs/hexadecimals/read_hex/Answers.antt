@@ -1,4 +1,4 @@
-use Rattle.std.proofs.Common.{◌≡◌, ◌<◌, length, get_or, sym, refl, ap, ◌∙◌, arith, lit<}
+use Rattle.std.proofs.Common.{◌≡◌, length, get_or, sym, refl, ap, ◌∙◌, arith, lit<}
 use Rattle.std.proofs.lemmas.List.{take_more, take_all}
 use Rattle.digits.specs.Hexadecimal.{hex_of}
 use Rattle.digits.proofs.Hexes.{length_hex_of, hex_of_push, hex_of_at, hex_of_room, below_push}

@@ -1,4 +1,3 @@
-use Prim.Native.Nat.{◌<◌, ◌^◌}
 use native.Mathlib.Omega.{arith}
 use Rattle.entry.proofs.Fields.{low_past}
 use Rattle.entry.proofs.bits.low.Goals as goal

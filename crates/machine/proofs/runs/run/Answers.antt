@@ -1,10 +1,10 @@
-use Rattle.std.proofs.Common.{◌≡◌, ◌+◌, ◌<◌, ◌≤◌, length, get_or, take, vec_items, refl, ◌∙◌, subst, arith}
+use Rattle.std.proofs.Common.{◌<◌, ◌≤◌, length, get_or, take, vec_items, refl, ◌∙◌, arith}
 use Rattle.std.proofs.lemmas.List.{take_more, take_all}
 use Rattle.calls.specs.declared.Call.TheVariants.{Host}
 use Rattle.calls.specs.declared.HostCall.TheVariants.{Load}
-use Rattle.history.specs.Moments.{Moment, start}
+use Rattle.history.specs.Moments.{start}
 use Rattle.history.specs.Settled.{plain_at, AllSettled}
-use Rattle.history.specs.Runs.{Ran, Played}
+use Rattle.history.specs.Runs.{Played}
 use Rattle.history.specs.Theorem.{Agrees, FaithfulRun}
 use Rattle.history.proofs.Pushed.{ran_none, ran_push}
 use Rattle.history.proofs.Theorem.{runs_agree}

@@ -1,7 +1,4 @@
-use Rattle.std.proofs.Common.{◌≡◌, ℕ, ◌+◌, ◌*◌, ◌/◌, ◌%◌, ◌^◌, Bool, true, false, cond, sym, refl, ap, ◌∙◌}
-use Rattle.std.proofs.lemmas.Bool.{cond-false}
 use Rattle.std.proofs.lemmas.Nat.{shr_split}
-use Rattle.access.specs.Accesses.{page_of}
 use Rattle.stages.specs.Stages.{translate_of}
 use Rattle.stages.proofs.laws.both_bare.Goals as goal
 

@@ -1,5 +1,5 @@
-use Rattle.std.proofs.Common.{◌≡◌, sym, ◌∙◌, rules}
-use Rattle.table.proofs.Descents.{at_lack, at_stop, at_leaf, walk_pointer, points_above, leaf_aligned}
+use Rattle.std.proofs.Common.{sym, ◌∙◌, rules}
+use Rattle.table.proofs.Descents.{at_lack, at_stop, at_leaf, walk_pointer, points_above}
 use Rattle.table.proofs.walks.descend.Goals as goal
 
 pub returns-in-Err : goal.returns-in-Err

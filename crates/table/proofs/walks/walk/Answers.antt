@@ -1,4 +1,3 @@
-use Rattle.std.proofs.Common.{◌≡◌, sym, refl, subst}
 use Rattle.table.specs.Shape.{bits_of}
 use Rattle.table.proofs.Chains.{follows}
 use Rattle.table.proofs.walks.walk.Goals as goal

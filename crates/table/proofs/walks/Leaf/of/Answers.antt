@@ -1,4 +1,4 @@
-use Rattle.std.proofs.Common.{◌≡◌, ◌+◌, ◌*◌, ◌%◌, ◌^◌, refl, arith, rules}
+use Rattle.std.proofs.Common.{rules}
 use Rattle.std.proofs.lemmas.Bool.{not-false, eqb-true}
 use Rattle.table.proofs.Superpages.{joined_fits}
 use Rattle.table.proofs.walks.Leaf.of.Goals as goal
