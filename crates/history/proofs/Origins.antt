@@ -1,6 +1,6 @@
 -- Where the grants of a book come from: each is true at an earlier moment, with no covering fence since.
 use Rattle.std.proofs.Common.{◌≡◌, ℕ, suc, ◌<◌, ◌≤◌, Bool, true, false, ◌||◌, eqb, ◌⊎◌, List, [], ◌∷◌, Some, None, sym, refl, ap, ◌∙◌, subst, inl, inr, ⊎_elim, arith}
-use Rattle.std.specs.List.{slice_get, AllByRecursion as All}
+use Rattle.std.specs.List.{slice_get, AllByRecursion}
 use Rattle.std.proofs.lemmas.Bool.{cases_lt, cases_Bool, both_ways, and_parts, or_cases, eqb-true}
 use Rattle.access.specs.declared.accesses.Access.{Access}
 use Rattle.access.specs.Accesses.{page_of, is_aligned}
@@ -66,7 +66,7 @@ covers_grant_lem f o g t e =
     of_grant (inr h) = inr (h.0 ∙ ap Some (sym (true_asid o.world g t)), not_global h.1)
 
 -- the first item that passes a test passes it, and what holds of all items holds of it
-first_of_lem : {X : Type 0} (test : X → Bool) (P : X → Type 0) (xs : List X) (x : X) → All P xs → first_of test xs ≡ Some x → P x × (test x ≡ true)
+first_of_lem : {X : Type 0} (test : X → Bool) (P : X → Type 0) (xs : List X) (x : X) → AllByRecursion P xs → first_of test xs ≡ Some x → P x × (test x ≡ true)
 unfolding first_of
 first_of_lem test P [] x all e = absurd (let z : ◌≡◌ {A = ℕ} 0 1 = cc in omega arith)
 first_of_lem test P (y ∷ ys) x all e = on (test y) refl (first_of_lem test P ys x all.1)
@@ -97,7 +97,7 @@ answering_by w a g e s =
     }
 
 -- the grant that answers is one of the book
-pub answering_is : (w : World) (a : Access) (P : Grant → Type 0) (book : List Grant) (g : Grant) → All P book → answering w a book ≡ Some g → P g × Answering w a g
+pub answering_is : (w : World) (a : Access) (P : Grant → Type 0) (book : List Grant) (g : Grant) → AllByRecursion P book → answering w a book ≡ Some g → P g × Answering w a g
 answering_is w a P book g all e = on (consults w a) refl
   where
     on : (b : Bool) → consults w a ≡ b → P g × Answering w a g

@@ -1,6 +1,6 @@
 -- Every run of a translator that keeps the rules is faithful.
 use Rattle.std.proofs.Common.{◌≡◌, ℕ, zero, suc, ◌≤◌, false, ◌⊎◌, List, [], length, Some, None, Ok, Option, sym, refl, ap, ◌∙◌, subst, inl, inr, ⊎_elim, arith}
-use Rattle.std.specs.List.{slice_get, ContainsAt as Has, AllByRecursion as All}
+use Rattle.std.specs.List.{slice_get, ContainsAt as Has, AllByRecursion}
 use Rattle.std.proofs.ByRecursion.{All-weaker, all-has}
 use Rattle.std.proofs.lemmas.Bool.{both_ways}
 use Rattle.access.specs.declared.accesses.Access.{Access}
@@ -37,9 +37,9 @@ module _ {S : Type 0} (book : S → List Grant) (answers : S → World → Acces
 
     -- call k leaves a book of known grants
     sound_on : (q : Ask) (s : S) (x : Answer) (n : Moment) (t : S) → asks (at k) c ≡ q → StepBy answers forgets clears q (at k) s c x n t
-        → All (Known at cs k) (book s) → All (Known at cs (suc k)) (book t)
+        → AllByRecursion (Known at cs k) (book s) → AllByRecursion (Known at cs (suc k)) (book t)
     sound_on nothing s x n t e step all =
-        subst (λ u. All (Known at cs (suc k)) (book u)) (sym step.1)
+        subst (λ u. AllByRecursion (Known at cs (suc k)) (book u)) (sym step.1)
         (All-weaker _ _ (λ g. stays g (λ o tr v. subst (λ q. CoversBy q g.page o) e v)) (book s) all)
     sound_on (reach a new) s x n t e step all =
         let uncovered : (g : Grant) (o : Moment) → Covers (at k) c g.page o → ⊥ = λ g o v. subst (λ q. CoversBy q g.page o) e v in
@@ -51,11 +51,11 @@ module _ {S : Type 0} (book : S → List Grant) (answers : S → World → Acces
         All-weaker (λ g. Has (book s) g × (covers_grant f g ≡ false)) (Known at cs (suc k))
         (λ g h. stays g (λ o tr v. both_ways _ h.1 (covers_grant_lem f o g tr (subst (λ q. CoversBy q g.page o) e v))) (all-has (Known at cs k) (book s) g all h.0))
         (book t) (fenced s t f step.1)
-    sound_on clear s x n t e step all = subst (All (Known at cs (suc k))) (sym (cleared s t step.1)) tt
+    sound_on clear s x n t e step all = subst (AllByRecursion (Known at cs (suc k))) (sym (cleared s t step.1)) tt
 
     -- an access over a book of known grants is plain or remembered
     reached : (a : Access) (new : ℕ) (s : S) (x : Answer) (t : S) → asks (at k) c ≡ reach a new → Reached answers forgets clears (at k) s a new x (at (suc k)) t
-        → All (Known at cs k) (book s) → Plainly (at k) c x (at (suc k)) ⊎ Remembered at cs k c x
+        → AllByRecursion (Known at cs k) (book s) → Plainly (at k) c x (at (suc k)) ⊎ Remembered at cs k c x
     reached a new s x t e step all = on (answering (at k).world a (book s)) refl
       where
         outcome : step.0.outcome ≡ or_walk (answering (at k).world a (book s)) (walked_to (at k).world a)
@@ -85,7 +85,7 @@ module _ {S : Type 0} (book : S → List Grant) (answers : S → World → Acces
             })
 
     served_by : (q : Ask) (s : S) (x : Answer) (t : S) → asks (at k) c ≡ q → StepBy answers forgets clears q (at k) s c x (at (suc k)) t
-        → All (Known at cs k) (book s) → Plainly (at k) c x (at (suc k)) ⊎ Remembered at cs k c x
+        → AllByRecursion (Known at cs k) (book s) → Plainly (at k) c x (at (suc k)) ⊎ Remembered at cs k c x
     served_by nothing s x t e step all = inl step.0
     served_by (reach a new) s x t e step all = reached a new s x t e step all
     served_by (forget f) s x t e step all = inl step.0
@@ -93,8 +93,8 @@ module _ {S : Type 0} (book : S → List Grant) (answers : S → World → Acces
 
   module _ (m : Moment) (s : S) (cs : List Call) (xs : List Answer) (end : Moment) (t : S) (empty : book s ≡ []) (run : Traced answers forgets clears m s cs xs end t) where
     -- every grant in the book is known, at each moment of the run
-    sound : (k : ℕ) → k ≤ length cs → All (Known run.at cs k) (book (run.state k))
-    sound zero l = subst (All (Known run.at cs 0)) (sym (ap book run.made ∙ empty)) tt
+    sound : (k : ℕ) → k ≤ length cs → AllByRecursion (Known run.at cs k) (book (run.state k))
+    sound zero l = subst (AllByRecursion (Known run.at cs 0)) (sym (ap book run.made ∙ empty)) tt
     sound (suc k) l =
         let many = run.many in
         let c = nth_there cs k (omega arith) in

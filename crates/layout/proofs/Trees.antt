@@ -1,13 +1,13 @@
 -- Trees of tables, by what each word names: a table is reached by one path, and what a change at one word does to the paths.
 use Rattle.std.proofs.Common.{◌≡◌, ℕ, suc, ◌+◌, ◌*◌, ◌<◌, ◌≤◌, ◌⊎◌, List, [], ◌∷◌, length, sym, refl, ap, ◌∙◌, inl, inr, arith}
-use Rattle.std.specs.List.{AllByRecursion as All}
+use Rattle.std.specs.List.{AllByRecursion}
 use Rattle.std.proofs.lemmas.Bool.Decides.{nat_tests}
 use Rattle.std.proofs.lemmas.Bool.{cases_eq}
 use Rattle.layout.specs.Tables.{below, table}
 
 -- the indices of a path
 abbrev pub Indices : List ℕ → Type 0
-Indices path = All (λ k. k < 512) path
+Indices path = AllByRecursion (λ k. k < 512) path
 
 -- every word names a frame below n, and no two words name one
 pub record Tree (g : ℕ → ℕ) (n : ℕ) : Type 0 where

@@ -1,6 +1,6 @@
 -- What holds of a pool between calls.
 use Rattle.std.specs.Prelude.{◌≡◌, ℕ, ◌*◌, ◌%◌, ◌^◌, ◌<◌, ◌≤◌, Bool, true, cond, not, ◌&&◌, ◌||◌, List, length, ◌==◌, nat_le, nat_lt}
-use Rattle.std.specs.List.{AllByRecursion as All}
+use Rattle.std.specs.List.{AllByRecursion}
 use Rattle.entry.specs.Entry.{stops, is_pointer, frame_of}
 use Rattle.layout.specs.Tables.{frames, next, names, word_at}
 
@@ -35,7 +35,7 @@ pub record Position : Type 0 where
   pub place : ℕ
 
 abbrev pub Lies : Position → Type 0
-Lies x = (x.asid < 16) × All (λ k. k < 512) x.path × (length x.path ≤ 2) × (x.place < 512)
+Lies x = (x.asid < 16) × AllByRecursion (λ k. k < 512) x.path × (length x.path ≤ 2) × (x.place < 512)
 
 -- every word of every table holds what it may
 abbrev pub Shaped : List ℕ → Type 0

@@ -1,7 +1,7 @@
 -- An access keeps the rules of a translator.
 use Rattle.std.specs.Prelude.{◌≡◌, ℕ, ◌^◌, ◌<◌, true, ◌&&◌, ◌⊎◌, List, Some, None, Option, nat_lt, refl}
 use Rattle.std.proofs.Common.{sym, ap, subst, ◌∙◌, inl, inr, arith}
-use Rattle.std.specs.List.{ContainsAt as Has, AllByRecursion as All}
+use Rattle.std.specs.List.{ContainsAt as Has, AllByRecursion}
 use Rattle.std.proofs.ByRecursion.{All-weaker, all_has_itself}
 use Rattle.std.proofs.lemmas.Bool.{cases_eq, cases_Bool, cond-true, cond-false, lt-ltb, ltb-true, and_parts, both_ways, false≢true}
 use Rattle.entry.specs.declared.entries.Entry.{Entry}
@@ -81,11 +81,11 @@ module _ (pool : List ℕ) (s : Sound pool) (w : World) where
   abbrev Fine : Grant → Type 0
   Fine x = Has (book_of pool) x ⊎ True w x
 
-  same_fine : All Fine (book_of pool)
+  same_fine : AllByRecursion Fine (book_of pool)
   same_fine = All-weaker (Has (book_of pool)) Fine (λ x h. inl h) (book_of pool) (all_has_itself (book_of pool))
 
   module _ (g : Grant) (f : Fullest w g) (k : Kept g) where
-    inserted_fine : All Fine (book_of (inserted pool g.asid g.page (leaf_word g)))
+    inserted_fine : AllByRecursion Fine (book_of (inserted pool g.asid g.page (leaf_word g)))
     inserted_fine =
         let p = inserted pool g.asid g.page (leaf_word g) in
         let law = inserts pool g.asid g.page (leaf_word g) s k.asid (fullest_canonical w g f) (word_leaf g k.frame k.rights (fullest_reads w g f)) in
@@ -115,7 +115,7 @@ module _ (pool : List ℕ) (s : Sound pool) (w : World) where
               ]
         ])
 
-  learnt_fine : (o : Option Grant) → ((g : Grant) → o ≡ Some g → Fullest w g) → All Fine (book_of (learnt pool o))
+  learnt_fine : (o : Option Grant) → ((g : Grant) → o ≡ Some g → Fullest w g) → AllByRecursion Fine (book_of (learnt pool o))
   learnt_fine None f = same_fine
   learnt_fine (Some g) f =
       elim (cases_Bool (is_kept g)) [

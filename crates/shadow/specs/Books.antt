@@ -3,7 +3,7 @@ use Rattle.std.specs.Prelude.{◌≡◌, ℕ, zero, suc, ◌+◌, ◌/◌, ◌%�
 use Rattle.std.proofs.Math.Path.{refl, ap}
 use Rattle.std.proofs.Common.{sym, subst, ◌∙◌, arith}
 use Rattle.std.proofs.Math.Logic.{inl, inr}
-use Rattle.std.specs.List.{ContainsAt as Has, AllByRecursion as All}
+use Rattle.std.specs.List.{ContainsAt as Has, AllByRecursion}
 use Rattle.std.proofs.lemmas.Bool.Decides.{nat_tests}
 use Rattle.std.proofs.ByRecursion.{All-append, all-has, has_append_left, has_append_right}
 use Rattle.std.proofs.lemmas.Bool.{cases_eq, cases_Bool, cond-true, cond-false, lt-ltb, le-ltb, ltb-true, eqb-true, eq-eqb, and_parts, and_from, or_cases, both_ways}
@@ -22,7 +22,7 @@ use Rattle.leaves.specs.Lookups.{grant_at, allowing, hit}
 use Rattle.shadow.specs.Book.{up_to, page_number, listed, under, book_of, BookIsFound}
 
 module _ {X : Type 0} where
-  up_to_all : (P : X → Type 0) (f : ℕ → List X) (n : ℕ) → ((i : ℕ) → i < n → All P (f i)) → All P (up_to f n)
+  up_to_all : (P : X → Type 0) (f : ℕ → List X) (n : ℕ) → ((i : ℕ) → i < n → AllByRecursion P (f i)) → AllByRecursion P (up_to f n)
   unfolding up_to
   up_to_all P f zero h = tt
   up_to_all P f (suc n) h = All-append P (up_to f n) (f n) (up_to_all P f n (λ i l. h i (omega arith))) (h n (omega arith))
@@ -82,12 +82,12 @@ held pool a page g e =
           ]
     ]
 
-listed_all : (P : Grant → Type 0) (o : Option Grant) → ((g : Grant) → o ≡ Some g → P g) → All P (listed o)
+listed_all : (P : Grant → Type 0) (o : Option Grant) → ((g : Grant) → o ≡ Some g → P g) → AllByRecursion P (listed o)
 listed_all P None h = tt
 listed_all P (Some g) h = (h g refl, tt)
 
 -- what holds of every grant that the pool holds, holds of the book
-pub book_all : (pool : List ℕ) (P : Grant → Type 0) → ((a page : ℕ) (g : Grant) → grant_at pool a page ≡ Some g → P g) → All P (book_of pool)
+pub book_all : (pool : List ℕ) (P : Grant → Type 0) → ((a page : ℕ) (g : Grant) → grant_at pool a page ≡ Some g → P g) → AllByRecursion P (book_of pool)
 unfolding book_of under
 book_all pool P h =
     up_to_all P (under pool) 16
@@ -114,7 +114,7 @@ booked pool g = (
 )
 
 module _ {X : Type 0} (test : X → Bool) where
-  first_from : (g : X) (xs : List X) → All (λ x. test x ≡ true → x ≡ g) xs → (first_of test xs ≡ Some g) ⊎ All (λ x. test x ≡ false) xs
+  first_from : (g : X) (xs : List X) → AllByRecursion (λ x. test x ≡ true → x ≡ g) xs → (first_of test xs ≡ Some g) ⊎ AllByRecursion (λ x. test x ≡ false) xs
   unfolding first_of
   first_from g [] a = inr tt
   first_from g (x ∷ xs) a =
@@ -124,7 +124,7 @@ module _ {X : Type 0} (test : X → Bool) where
       ]
 
   -- the one item that passes is the first
-  first_some : (g : X) (xs : List X) → test g ≡ true → Has xs g → All (λ x. test x ≡ true → x ≡ g) xs → first_of test xs ≡ Some g
+  first_some : (g : X) (xs : List X) → test g ≡ true → Has xs g → AllByRecursion (λ x. test x ≡ true → x ≡ g) xs → first_of test xs ≡ Some g
   first_some g xs t h a =
       elim (first_from g xs a) [ inl e ↦ e | inr e ↦ absurd (both_ways (test g) (all-has (λ x. test x ≡ false) xs g e h) t) ]
 

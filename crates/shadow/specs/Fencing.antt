@@ -1,7 +1,7 @@
 -- A fence keeps the rules of a translator.
 use Rattle.std.specs.Prelude.{◌≡◌, ℕ, ◌/◌, ◌^◌, ◌<◌, ◌≤◌, true, false, cond, ◌&&◌, ◌↔◌, List, [], Some, None, Option, ◌==◌, ◌≢◌, refl}
 use Rattle.std.proofs.Common.{sym, ap, ◌∙◌, inl, inr, arith}
-use Rattle.std.specs.List.{ContainsAt as Has, AllByRecursion as All}
+use Rattle.std.specs.List.{ContainsAt as Has, AllByRecursion}
 use Rattle.std.proofs.ByRecursion.{all-has}
 use Rattle.std.proofs.lemmas.Bool.{cases_eq, cases_lt, cases_Bool, cond-true, cond-false, lt-ltb, le-ltb, eq-eqb, ne_eqb, and_from, and_left, and_right}
 use Rattle.stages.specs.Stages.{is_canonical}
@@ -119,7 +119,7 @@ module _ (pool : List ℕ) (s : Sound pool) where
         let e = left_fenced address asid b q hb ∙ cond-false (covers_page address q && covers_asid asid b false) None (found pool b q) c in
         grant_found p b q (found pool b q) hb e ∙ sym (grant_found pool b q (found pool b q) hb refl)
 
-    pub fenced_pool : All Stays (book_of (fenced pool address asid))
+    pub fenced_pool : AllByRecursion Stays (book_of (fenced pool address asid))
     fenced_pool =
         let p = fenced pool address asid in
         book_all p Stays

@@ -1,6 +1,6 @@
 -- A line as a list of fields, and what finding them answers.
 use Rattle.std.specs.Prelude.{◌≡◌, ℕ, ◌+◌, ◌<◌, ◌≤◌, List, [], ◌∷◌, ◌++◌, map, length, take, drop, Some, None, Option, ◌≢◌, slice_index_or}
-use Rattle.std.specs.List.{AllByRecursion as All}
+use Rattle.std.specs.List.{AllByRecursion}
 use Rattle.fields.specs.declared.tags.Tag.{Tag}
 use Rattle.fields.specs.declared.tags.Tag.TheVariants.{Op}
 use Rattle.trace.specs.declared.marks.Mark.TheVariants.{Stop}
@@ -24,7 +24,7 @@ line_text (f ∷ g ∷ fs) = field_text f (32 ∷ line_text (g ∷ fs))
 
 -- no value has a space or LF
 abbrev pub Plain : List Item → Type 0
-Plain fs = All (λ f. Lacks Stop f.1) fs
+Plain fs = AllByRecursion (λ f. Lacks Stop f.1) fs
 
 -- the field whose value stands at a spot of the line
 abbrev pub item_at : List ℕ → Spot → Item

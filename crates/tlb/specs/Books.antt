@@ -2,7 +2,7 @@
 use Rattle.std.specs.Prelude.{◌≡◌, ℕ, zero, suc, ◌%◌, Bool, true, false, cond, ◌||◌, List, [], ◌∷◌, get_or, Some, None, Option, ◌==◌, ◌≢◌, slice_index_or}
 use Rattle.std.proofs.Math.Path.{refl, sym}
 use Rattle.std.proofs.Common.{ap, ◌∙◌, arith}
-use Rattle.std.specs.List.{ContainsAt as Has, AllByRecursion as All}
+use Rattle.std.specs.List.{ContainsAt as Has, AllByRecursion}
 use Rattle.std.proofs.ByRecursion.{All-append, All-weaker, has_append_left, has_append_right}
 use Rattle.std.proofs.lemmas.Bool.{and_left, ne_eqb}
 use Rattle.access.specs.declared.accesses.Access.{Access}
@@ -22,7 +22,7 @@ has_book [] i g h = h
 has_book (s ∷ sets) zero g h = has_append_left (standing s.ways) (book_of sets) g h
 has_book (s ∷ sets) (suc i) g h = has_append_right (standing s.ways) (book_of sets) g (has_book sets i g h)
 
-pub all_book : (P : Grant → Type 0) (sets : List Set) → ((i : ℕ) → Holding P (slice_index_or sets i no_set)) → All P (book_of sets)
+pub all_book : (P : Grant → Type 0) (sets : List Set) → ((i : ℕ) → Holding P (slice_index_or sets i no_set)) → AllByRecursion P (book_of sets)
 all_book P [] all = tt
 all_book P (s ∷ sets) all = All-append P (standing s.ways) (book_of sets) (all 0) (all_book P sets (λ i. all (suc i)))
 

@@ -1,7 +1,7 @@
 -- The buffer keeps the rules of a translator over any translator that does.
 use Rattle.std.specs.Prelude.{◌≡◌, ℕ, ◌%◌, false, ◌⊎◌, List, [], ◌∷◌, ◌++◌, map, get_or, Some, None, Option, MatchOption, slice_index_or, refl}
 use Rattle.std.proofs.Common.{sym, ap, subst, ◌∙◌, inl, inr, ⊎_elim, arith}
-use Rattle.std.specs.List.{ContainsAt as Has, AllByRecursion as All}
+use Rattle.std.specs.List.{ContainsAt as Has, AllByRecursion}
 use Rattle.std.proofs.ByRecursion.{All-append, All-weaker, all_has_itself, has_append_left, has_append_right}
 use Rattle.access.specs.declared.accesses.Access.{Access}
 use Rattle.stages.specs.Stages.{World}
@@ -31,7 +31,7 @@ in_book : (sets : List Set) (i : ℕ) → Holding (Has (book_of sets)) (slice_in
 in_book sets i = let s = standing (get_or sets i no_set).ways in All-weaker (Has s) _ (has_book sets i) s (all_has_itself s)
 
 -- what holds of the book, and of the grant stored, holds of the book afterwards
-stored_all : (P : Grant → Type 0) (sets : List Set) → ((g : Grant) → Has (book_of sets) g → P g) → (o : Option Grant) → Given o P → All P (book_of (stored o sets))
+stored_all : (P : Grant → Type 0) (sets : List Set) → ((g : Grant) → Has (book_of sets) g → P g) → (o : Option Grant) → Given o P → AllByRecursion P (book_of (stored o sets))
 stored_all P sets old None p = All-weaker _ P old (book_of sets) (all_has_itself (book_of sets))
 stored_all P sets old (Some g) p =
     let each : (i : ℕ) → Holding P (slice_index_or sets i no_set) = λ i. All-weaker _ P old _ (in_book sets i) in
@@ -72,7 +72,7 @@ module _ {T : Type 0} (book : T → List Grant) (below : T → World → Access 
       let same : whole t ≡ whole s = rw (h.sets, h.below) in
       record {
         outcome = ap (λ (q : Reply). q.outcome) h.reply ∙ sym (ap (λ o. or_walk o (walked_to w a)) f);
-        kept = subst (All (λ x. Has (whole s) x ⊎ True w x)) (sym same) (All-weaker _ _ (λ x k. inl k) (whole s) (all_has_itself (whole s)));
+        kept = subst (AllByRecursion (λ x. Has (whole s) x ⊎ True w x)) (sym same) (All-weaker _ _ (λ x k. inl k) (whole s) (all_has_itself (whole s)));
         handed = subst (λ (q : Reply). Given q.grant (λ x. Has (whole s) x ⊎ Fresh (whole s) w a x)) (sym h.reply) (inl (answering_has w a (whole s) g f));
         bare = λ b. let p = answering_paged w a (whole s) g f in let z : ◌≡◌ {A = ℕ} 0 1 = cc in absurd (omega arith);
       }
@@ -87,7 +87,7 @@ module _ {T : Type 0} (book : T → List Grant) (below : T → World → Access 
         outcome = low.outcome ∙ sym (ap (λ o. or_walk o (walked_to w a)) f);
         kept =
             All-append _ (book_of (sets_of t)) (book t.below)
-            (subst (λ (x : List Set). All (λ g. Has (whole s) g ⊎ True w g) (book_of x)) (sym h.sets) (stored_all _ (sets_of s) (λ g k. inl (has_append_left (book_of (sets_of s)) (book s.below) g k)) r.grant true-hand))
+            (subst (λ (x : List Set). AllByRecursion (λ g. Has (whole s) g ⊎ True w g) (book_of x)) (sym h.sets) (stored_all _ (sets_of s) (λ g k. inl (has_append_left (book_of (sets_of s)) (book s.below) g k)) r.grant true-hand))
             (All-weaker _ _ (λ g. ⊎_elim (λ k. inl (up g k)) (λ k. inr k)) (book t.below) low.kept);
         handed = hand;
         bare = low.bare;

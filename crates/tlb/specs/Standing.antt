@@ -1,7 +1,7 @@
 -- What holds of the grants in a set after it is filled or cleared, and the invariant of the sets kept.
 use Rattle.std.specs.Prelude.{◌≡◌, ℕ, zero, suc, ◌%◌, ◌<◌, Bool, true, false, cond, List, [], ◌∷◌, map, get_or, Some, None, Option, slice_index_or, slice_set, refl}
 use Rattle.std.proofs.Common.{sym, subst, arith}
-use Rattle.std.specs.List.{ContainsAt as Has, AllByRecursion as All}
+use Rattle.std.specs.List.{ContainsAt as Has, AllByRecursion}
 use Rattle.std.proofs.ByRecursion.{all-has, All-weaker, all_has_itself}
 use Rattle.translator.specs.declared.grants.Grant.{Grant}
 use Rattle.translator.specs.declared.fences.Fence.{Fence}
@@ -12,10 +12,10 @@ use Rattle.tlb.specs.Tables.{no_set, set_of, Placed, Ready, sets_after}
 
 -- what holds of each grant in the ways of a set
 abbrev pub Holding : (Grant → Type 0) → Set → Type 0
-Holding P s = All P (standing s.ways)
+Holding P s = AllByRecursion P (standing s.ways)
 
 module _ (P : Grant → Type 0) where
-  all_put : (ways : List (Option Grant)) (i : ℕ) (g : Grant) → P g → All P (standing ways) → All P (standing (slice_set ways i (Some g)))
+  all_put : (ways : List (Option Grant)) (i : ℕ) (g : Grant) → P g → AllByRecursion P (standing ways) → AllByRecursion P (standing (slice_set ways i (Some g)))
   all_put [] i g p h = tt
   all_put (None ∷ ways) zero g p h = (p, h)
   all_put (Some x ∷ ways) zero g p h = (p, h.1)
@@ -31,7 +31,7 @@ module _ (P : Grant → Type 0) where
   filled_holds g s = filled_by_lem (place (is_alike g) s.ways) (place is_empty s.ways) g s
 
   -- a fence leaves the grants that it does not cover
-  pub spared_all : (f : Fence) (ways : List (Option Grant)) → All P (standing ways) → All (λ g. P g × (covers_grant f g ≡ false)) (standing (map (spared f) ways))
+  pub spared_all : (f : Fence) (ways : List (Option Grant)) → AllByRecursion P (standing ways) → AllByRecursion (λ g. P g × (covers_grant f g ≡ false)) (standing (map (spared f) ways))
   spared_all f [] h = tt
   spared_all f (None ∷ ways) h = spared_all f ways h
   spared_all f (Some g ∷ ways) h = by_test (covers_grant f g) refl (spared_all f ways h.1)
@@ -39,7 +39,7 @@ module _ (P : Grant → Type 0) where
       Q : Grant → Type 0
       Q x = P x × (covers_grant f x ≡ false)
 
-      by_test : (b : Bool) → covers_grant f g ≡ b → All Q (standing (map (spared f) ways)) → All Q (standing (cond b None (Some g) ∷ map (spared f) ways))
+      by_test : (b : Bool) → covers_grant f g ≡ b → AllByRecursion Q (standing (map (spared f) ways)) → AllByRecursion Q (standing (cond b None (Some g) ∷ map (spared f) ways))
       by_test true e rest = rest
       by_test false e rest = ((h.0, e), rest)
 

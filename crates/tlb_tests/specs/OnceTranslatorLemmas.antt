@@ -1,7 +1,7 @@
 use Rattle.std.specs.Prelude.{◌≡◌, ℕ, ◌⊎◌, List, [], Some, None, Option, MatchOption}
 use Rattle.std.proofs.Common.{sym, ap, subst, inl, inr, ⊎_elim, arith}
 use Rattle.std.specs.Option.{option_to_list}
-use Rattle.std.specs.List.{ContainsAt as Has, AllByRecursion as All}
+use Rattle.std.specs.List.{ContainsAt as Has, AllByRecursion}
 use Rattle.access.specs.declared.accesses.Access.{Access}
 use Rattle.stages.specs.Stages.{World}
 use Rattle.translator.specs.declared.grants.Grant.{Grant}
@@ -17,7 +17,7 @@ use Rattle.tlb.specs.Layer.{served}
 use Rattle.tlb_tests.specs.declared.onces.Once.{Once}
 
 -- the grant of a walk is true or was there
-pub handed_all : (book : List Grant) (w : World) (a : Access) (o : Option Grant) → Given o (λ g. Has book g ⊎ Fresh book w a g) → All (λ g. Has book g ⊎ True w g) (option_to_list o)
+pub handed_all : (book : List Grant) (w : World) (a : Access) (o : Option Grant) → Given o (λ g. Has book g ⊎ Fresh book w a g) → AllByRecursion (λ g. Has book g ⊎ True w g) (option_to_list o)
 handed_all book w a None h = tt
 handed_all book w a (Some g) h = (⊎_elim (λ k. inl k) (λ k. inr (fullest_true w g k.fullest)) h, tt)
 

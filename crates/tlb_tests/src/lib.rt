@@ -1,4 +1,5 @@
 //! Tests of the look-aside buffer: where grants go, which are replaced, what fences leave, and what lies below it.
+#![tactic(auto)]
 
 mod onces;
 

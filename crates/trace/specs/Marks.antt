@@ -1,6 +1,6 @@
 -- The bytes that end a part of a text, and what it is to cut a text at the first of them.
 use Rattle.std.specs.Prelude.{◌≡◌, ℕ, ◌⊎◌, List, ◌∷◌, ◌++◌, Some, None, Option}
-use Rattle.std.specs.List.{AllByRecursion as All}
+use Rattle.std.specs.List.{AllByRecursion}
 use Rattle.trace.specs.declared.marks.Mark.{Mark}
 use Rattle.trace.specs.declared.marks.Mark.TheVariants.{Equals, Stop, LineFeed}
 use Rattle.trace.specs.declared.marks.Cut.{Cut}
@@ -13,7 +13,7 @@ Is LineFeed b = b ≡ 10
 
 -- a text has no such mark
 abbrev pub Lacks : Mark → List ℕ → Type 0
-Lacks m text = All (λ b. Is m b → ⊥) text
+Lacks m text = AllByRecursion (λ b. Is m b → ⊥) text
 
 -- the text is a part with no mark, then the mark t, then the rest
 pub record CutAs (m : Mark) (text part : List ℕ) (t : ℕ) (rest : List ℕ) : Type 0 where

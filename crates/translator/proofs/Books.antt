@@ -1,6 +1,6 @@
 -- The first item of joined lists, and the grant of a book that answers.
 use Rattle.std.proofs.Common.{◌≡◌, ℕ, Bool, true, false, cond, List, [], ◌∷◌, ◌++◌, Some, None, Option, refl, subst, arith}
-use Rattle.std.specs.List.{ContainsAt as Has, AllByRecursion as All}
+use Rattle.std.specs.List.{ContainsAt as Has, AllByRecursion}
 use Rattle.std.proofs.ByRecursion.{has_get_or, has_append_right}
 use Rattle.std.proofs.lemmas.Bool.{and_parts}
 use Rattle.access.specs.declared.accesses.Access.{Access}
@@ -26,7 +26,7 @@ module _ {X : Type 0} (p : X → Bool) where
       by_test true e = refl
       by_test false e = e
 
-  pub first_none : (xs : List X) → All (λ x. p x ≡ false) xs → first_of p xs ≡ None
+  pub first_none : (xs : List X) → AllByRecursion (λ x. p x ≡ false) xs → first_of p xs ≡ None
   unfolding first_of
   first_none [] h = refl
   first_none (x ∷ xs) h = rw h.0 (first_none xs h.1)

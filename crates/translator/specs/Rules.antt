@@ -1,7 +1,7 @@
 -- The rules that every translator keeps, on its book: an ordered list of grants.
 use Rattle.std.specs.Prelude.{◌≡◌, ℕ, false, ◌⊎◌, List, Some, None, Ok, Option, Result}
 use Rattle.std.specs.Result.{result_map_both}
-use Rattle.std.specs.List.{ContainsAt as Has, AllByRecursion as All}
+use Rattle.std.specs.List.{ContainsAt as Has, AllByRecursion}
 use Rattle.access.specs.declared.accesses.Access.{Access}
 use Rattle.fault.specs.declared.faults.Fault.{Fault}
 use Rattle.access.specs.Accesses.{page_of}
@@ -40,10 +40,10 @@ Given (Some g) P = P g
 -- one access: the answer, the grant handed out, and the book before and after
 pub record Answered (before : List Grant) (w : World) (a : Access) (r : Reply) (after : List Grant) : Type 0 where
   pub outcome : r.outcome ≡ outcome_of before w a
-  pub kept : All (λ g. Has before g ⊎ True w g) after
+  pub kept : AllByRecursion (λ g. Has before g ⊎ True w g) after
   pub handed : Given r.grant (λ g. Has before g ⊎ Fresh before w a g)
   pub bare : is_paged w.guest ≡ false → r.grant ≡ None
 
 -- one guest fence: no covered grant is left, and none is new
 abbrev pub Fenced : List Grant → Fence → List Grant → Type 0
-Fenced before f after = All (λ g. Has before g × (covers_grant f g ≡ false)) after
+Fenced before f after = AllByRecursion (λ g. Has before g × (covers_grant f g ≡ false)) after

@@ -1,4 +1,5 @@
 //! Tests of the two-stage walk, whose expected answers come from a model that was written apart from the program.
+#![tactic(auto)]
 
 #[cfg(test)]
 mod cases;

@@ -103,7 +103,12 @@ fn try_access<M: Memory>(
             (frame, word, guest, host, true),
         ),
         Answer::Faulted(cause, physical, stage, guest, host) => {
-            check_fault(rt, number, found, (cause, access.address, physical, stage, guest, host))
+            check_fault(
+                rt,
+                number,
+                found,
+                (cause, access.address, physical, stage, guest, host),
+            )
         }
     }
 }
@@ -160,13 +165,7 @@ impl Bench {
     }
 
     // Goes one step.
-    fn go(
-        &mut self,
-        rt: &impl Abort,
-        heap: Global,
-        number: usize,
-        step: Step,
-    ) -> Result<(), Fail> {
+    fn go(&mut self, rt: &impl Abort, heap: Global, number: usize, step: Step) -> Result<(), Fail> {
         match step {
             Step::Zeros(frames, guest, host) => {
                 *self = begin(heap, frames, guest, host)?;
@@ -215,11 +214,17 @@ fn levels(rt: HostRuntime) -> Result<(), Fail> {
 fn check_guest(rt: &impl Abort, register: u64, is_good: bool) -> Result<(), Fail> {
     match GuestRoot::decode(register) {
         Ok(root) => {
-            assert!(rt; is_good && root.register == register, "guest root {register:#x}");
+            assert!(rt;
+                is_good && root.register == register,
+                "guest root {register:#x}"
+            );
             Ok(())
         },
         Err(refusal) => {
-            assert!(rt; !is_good && refusal.number() == 3, "guest root {register:#x}");
+            assert!(rt;
+                !is_good && refusal.number() == 3,
+                "guest root {register:#x}"
+            );
             Ok(())
         },
     }
@@ -229,11 +234,17 @@ fn check_guest(rt: &impl Abort, register: u64, is_good: bool) -> Result<(), Fail
 fn check_host(rt: &impl Abort, register: u64, is_good: bool) -> Result<(), Fail> {
     match HostRoot::decode(register) {
         Ok(root) => {
-            assert!(rt; is_good && root.register == register, "host root {register:#x}");
+            assert!(rt;
+                is_good && root.register == register,
+                "host root {register:#x}"
+            );
             Ok(())
         },
         Err(refusal) => {
-            assert!(rt; !is_good && refusal.number() == 4, "host root {register:#x}");
+            assert!(rt;
+                !is_good && refusal.number() == 4,
+                "host root {register:#x}"
+            );
             Ok(())
         },
     }
