@@ -682,18 +682,10 @@ def ask_constants():
 
 
 USES = (
-    "crate::steps::Answer::Faulted",
-    "crate::steps::Answer::Global",
-    "crate::steps::Answer::Granted",
-    "crate::steps::Ask",
-    "crate::steps::Register",
-    "crate::steps::Step",
-    "crate::steps::Step::Deep",
-    "crate::steps::Step::Put",
-    "crate::steps::Step::Try",
-    "crate::steps::Step::Zeros",
-    "stages::Kind",
-    "stages::Mode",
+    "crate::steps::Answer::{Faulted, Global, Granted}",
+    "crate::steps::Step::{Deep, Put, Try, Zeros}",
+    "crate::steps::{Ask, Register, Step}",
+    "access::{Kind, Mode}",
 )
 
 

@@ -1,5 +1,5 @@
 -- An access of one word: its page, its word, and its alignment.
-use Rattle.std.specs.Prelude.{Bool, ℕ, ◌/◌, ◌%◌, ◌^◌, eqb}
+use Rattle.std.specs.Prelude.{Bool, ℕ, ◌/◌, ◌%◌, ◌^◌, ◌==◌}
 use Rattle.access.specs.declared.accesses.Access.{Access}
 
 -- the page of the address: its bits 63 to 12
@@ -12,4 +12,4 @@ word_of a = a.address / 8 % 512
 
 -- the address is a multiple of 8
 abbrev pub is_aligned : Access → Bool
-is_aligned a = eqb (a.address % 8) 0
+is_aligned a = a.address % 8 == 0

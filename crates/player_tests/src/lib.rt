@@ -1,4 +1,6 @@
 //! Tests of the player: what is refused, at which limit, and whole reports.
+#![tactic(auto)]
+
 use judging::judge_input;
 use player::play;
 use std::alloc::{AllocError, Global};
@@ -189,7 +191,7 @@ fn a_last_line_without_its_end(rt: HostRuntime) -> Result<(), Fail> {
     let expected = b"n=1 ans=ok\nn=2 ans=refused number=8\nn=3 ans=refused number=8\n";
     match report_of(rt.alloc(), 1, trace, &mut Nested)? {
         Ok(report) => {
-            assert!(rt; report.as_slice() == expected);
+            assert!(rt; report.as_slice() == expected.as_slice());
             Ok(())
         },
         Err(number) => {

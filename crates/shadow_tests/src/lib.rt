@@ -1,4 +1,5 @@
-//! Examples of the shadow: pools of every size, exhaustion, fences, every ASID, both halves of the address space, rights, and lists of calls on three machines.
+//! Examples of the shadow: pools of every size, exhaustion, fences, every ASID, both halves of the address space, and rights.
+#![tactic(auto)]
 
 #[cfg(test)]
 mod pools;

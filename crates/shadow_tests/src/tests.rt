@@ -2,6 +2,7 @@
 use crate::steps::*;
 use layout::check_pool;
 use shadow::Shadow;
+use std::test::Fail;
 
 // The first page of the upper half, and the last page.
 const UPPER: u64 = 0xffff_ffc0_0000_0000;
@@ -29,7 +30,7 @@ static LENGTHS: [(usize, u8); 9] = [
 ];
 
 #[test]
-fn pools_are_checked(rt: HostRuntime) -> Result<(), Fail> {
+fn pools_of_many_lengths_are_checked(rt: HostRuntime) -> Result<(), Fail> {
     for (len, number) in LENGTHS.iter() {
         let words = vec![in rt.alloc(); UNTOUCHED; *len]?;
         let refused = match check_pool(&words) {
@@ -129,7 +130,7 @@ static FENCES: [(Option<u64>, Option<u16>, [u16; 4]); 13] = [
 ];
 
 #[test]
-fn fences_forget_what_they_cover(rt: HostRuntime) -> Result<(), Fail> {
+fn each_fence_forgets_what_it_covers(rt: HostRuntime) -> Result<(), Fail> {
     for (address, asid, frames) in FENCES.iter() {
         let steps = [
             Step::Load(1, 0, 4),

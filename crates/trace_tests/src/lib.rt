@@ -1,4 +1,5 @@
 //! Tests of reading traces and writing reports.
+#![tactic(auto)]
 
 #[cfg(test)]
 mod answers;

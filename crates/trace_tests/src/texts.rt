@@ -101,15 +101,15 @@ fn lines_with_and_without_lf(rt: HostRuntime) -> Result<(), Fail> {
     let Some((first, rest)) = next_line(b"a\n\nb") else {
         return Err(Fail::new("no first line"));
     };
-    assert!(rt; first == b"a\n");
+    assert!(rt; first == b"a\n".as_slice());
     let Some((second, rest)) = next_line(rest) else {
         return Err(Fail::new("no empty line"));
     };
-    assert!(rt; second == b"\n");
+    assert!(rt; second == b"\n".as_slice());
     let Some((third, rest)) = next_line(rest) else {
         return Err(Fail::new("no last line"));
     };
-    assert!(rt; third == b"b");
+    assert!(rt; third == b"b".as_slice());
     assert!(rt; next_line(rest).is_none());
     Ok(())
 }

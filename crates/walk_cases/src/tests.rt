@@ -43,7 +43,7 @@ fn check_grant(
     expected: Grant,
 ) -> Result<(), Fail> {
     let Ok(granted) = found else {
-        return Err(Fail::new("it faulted"));
+        return Err(Fail::new(format_args!("step {number}: it faulted")));
     };
     let is_global = match granted.guest {
         Some(leaf) => leaf.global,
@@ -64,7 +64,7 @@ fn check_fault(
     expected: SixNumbers,
 ) -> Result<(), Fail> {
     let Err(fault) = found else {
-        return Err(Fail::new("it was granted"));
+        return Err(Fail::new(format_args!("step {number}: it was granted")));
     };
     let is = fault.numbers();
     let found = (
