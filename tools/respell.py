@@ -7,6 +7,9 @@ Every name that an .antt file of ROOT/crates declares in another spelling is tur
 files, and in must-fail edits and documents where it is in camel case. Types, modules, names of the library, goals, and
 functions of src/ keep their spelling. A lemma that would get the name of what it is about ends in _lem. Names of one .antt
 file that would still fall together are printed, and nothing is written then.
+
+Two more spellings are turned: the library's AllByRecursion loses the alias All, which is now another word of the
+library's, and a member of a bound that stands alone in a clause gets its type before it, as M.words.
 """
 
 import os
@@ -15,6 +18,8 @@ import sys
 
 # Lemmas that the kit's script gave the spelling of the definition that they are about.
 LEMMAS = {"walked_to": "walked_to_lem"}
+# Members that stand alone, and what is written for them now.
+MEMBERS = {"words memory.now": "M.words memory.now", "reads source.now": "S.reads source.now", "fits x query.now": "X.fits x query.now"}
 SIGNATURE = re.compile(r"^\s*(?:let )?(?:(?:pattern|unfoldable|abbrev|pub) )*([^\s(){}\[\],;:.]+)(?: \{[^}]*\})? : ")
 INLINE = re.compile(r"^\s*abbrev pub (\S+) :")
 ALIAS = re.compile(r"(?<=\sas )([a-z]\w*)")
@@ -61,6 +66,17 @@ def declared(root):
     return {n for n in found if respelt(n) != n and n not in imported}
 
 
+def spelt(path, text):
+    """The two more spellings."""
+    if path.endswith(".rt"):
+        for old, new in MEMBERS.items():
+            text = re.sub(r"(?<![\w.])" + re.escape(old), new, text)
+    if "AllByRecursion as All" in text:
+        text = text.replace("AllByRecursion as All", "AllByRecursion")
+        text = TOKEN.sub(lambda m: "AllByRecursion" if m.group(0) == "All" else m.group(0), text)
+    return text
+
+
 def main(argv):
     dry = "--dry" in argv
     root = [a for a in argv if a != "--dry"][0]
@@ -83,7 +99,7 @@ def main(argv):
             turned.setdefault(table[t], []).append(t)
         if path.endswith(".antt"):
             bad += [f"{path}: {', '.join(olds)} and {new}" for new, olds in turned.items() if new in tokens or len(olds) > 1]
-        new = TOKEN.sub(lambda m: table.get(m.group(0), m.group(0)), text)
+        new = spelt(path, TOKEN.sub(lambda m: table.get(m.group(0), m.group(0)), text))
         if new != text:
             changed[path] = new
     print("\n".join(bad))
