@@ -11,7 +11,9 @@ fn main() {
     let folder = PathBuf::from(env!("CARGO_MANIFEST_DIR")).join("../crates/exports/out");
     link(&folder, "exports", "run `rt lib` in crates/exports first");
     let kit = kit().unwrap_or_else(|| panic!("no kit: `rt doc` must print the path of its guide"));
-    link(&kit.join("lib"), "rattle_c", "the kit must have its C code there, which allocates and frees");
+    for name in ["os_c", "libc_c"] {
+        link(&kit.join("c"), name, "the kit must have its C code there, which allocates and frees");
+    }
 }
 
 /// Links libNAME.a of a folder, or stops with advice where it is missing.
@@ -23,9 +25,9 @@ fn link(folder: &Path, name: &str, advice: &str) {
     println!("cargo::rustc-link-lib=static={name}");
 }
 
-/// The kit's folder, two above the guide that `rt doc` names.
+/// The kit's folder, which has the guide that `rt doc` names.
 fn kit() -> Option<PathBuf> {
     let output = Command::new("rt").arg("doc").output().ok()?;
     let guide = String::from_utf8(output.stdout).ok()?;
-    Some(Path::new(guide.trim_end()).parent()?.parent()?.to_path_buf())
+    Some(Path::new(guide.trim_end()).parent()?.to_path_buf())
 }
