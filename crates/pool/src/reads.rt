@@ -4,13 +4,8 @@ ghost use Rattle.layout.specs.Tables.{frames as frames_of, next as next_of, name
 ghost use Rattle.layout.specs.Changes.{lack_of, missing as missing_of, has_room};
 
 use crate::pools::Pool;
+use crate::words::{FRAME, NEXT};
 use layout::{Asid, VirtualPage, decode, word};
-
-// The words in a frame.
-const FRAME: usize = 512;
-
-// The word that holds the next unused frame.
-const NEXT: usize = 16;
 
 // The most frames that are used.
 const MAX_FRAMES: usize = 512;

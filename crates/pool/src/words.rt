@@ -7,10 +7,10 @@ ghost use Rattle.layout.specs.Sound.{Sound};
 use layout::{Asid, VirtualPage, decode, word};
 
 // The words in a frame.
-const FRAME: usize = 512;
+pub(crate) const FRAME: usize = 512;
 
 // The word that holds the next unused frame; the words before it hold the roots.
-const NEXT: usize = 16;
+pub(crate) const NEXT: usize = 16;
 
 // Sets `count` words from `start` on to 0.
 fn clear(words: &mut Vec<u64>, start: usize, count: usize)

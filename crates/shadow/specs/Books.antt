@@ -4,7 +4,6 @@ use Rattle.std.proofs.Math.Path.{refl, ap}
 use Rattle.std.proofs.Common.{sym, subst, ◌∙◌, arith}
 use Rattle.std.proofs.Math.Logic.{inl, inr}
 use Rattle.std.specs.List.{ContainsAt as Has, AllByRecursion}
-use Rattle.std.proofs.lemmas.Bool.Decides.{nat_tests}
 use Rattle.std.proofs.ByRecursion.{All-append, all-has, has_append_left, has_append_right}
 use Rattle.std.proofs.lemmas.Bool.{cases_eq, cases_Bool, cond-true, cond-false, lt-ltb, le-ltb, ltb-true, eqb-true, eq-eqb, and_parts, and_from, or_cases, both_ways}
 use Rattle.entry.specs.declared.entries.Entry.{Entry}
@@ -45,10 +44,14 @@ module _ {X : Type 0} where
 page_at : (page : ℕ) → is_canonical page ≡ true → page_number (page % 134217728) ≡ page
 page_at page c =
     let n = page % 134217728 in
-    let k : (page / 67108864 ≡ 0) ⊎ (page / 67108864 ≡ 67108863) = grind (arith, nat_tests) in
-    elim k [
-      | inl x ↦ cond-true (nat_lt n 67108864) n (n + 4503599493152768) (lt-ltb n 67108864 (omega arith)) ∙ omega arith
-      | inr x ↦ cond-false (nat_lt n 67108864) n (n + 4503599493152768) (le-ltb n 67108864 (omega arith)) ∙ omega arith
+    let top = page / 67108864 in
+    elim (or_cases (top == 0) (top == 67108863) c) [
+      | inl x ↦
+          let low : top ≡ 0 = eqb-true top 0 x in
+          cond-true (nat_lt n 67108864) n (n + 4503599493152768) (lt-ltb n 67108864 (omega arith)) ∙ omega arith
+      | inr x ↦
+          let high : top ≡ 67108863 = eqb-true top 67108863 x in
+          cond-false (nat_lt n 67108864) n (n + 4503599493152768) (le-ltb n 67108864 (omega arith)) ∙ omega arith
     ]
 
 pub some_none : {X : Type 0} (x : X) → None ≢ Some x

@@ -1,6 +1,6 @@
 //! The translator that remembers nothing.
 ghost use Rattle.std.specs.Prelude.{◌≡◌, []};
-ghost use Rattle.std.proofs.Common.{sym, subst, rules};
+ghost use Rattle.std.proofs.Common.{refl, sym, subst};
 ghost use Rattle.translator.specs.Walked.{walked_reply};
 ghost use Rattle.translator.specs.declared.replies.Reply.{Reply};
 ghost use Rattle.translator.specs.Rules.{Answered};
@@ -32,9 +32,9 @@ impl Translator for Nested {
         subst (λ (q : Reply). Answered [] w a q []) (sym e)
         (record { outcome = walked_outcome [] w a none; kept = tt; handed = walked_handed [] w a none; bare = walked_bare [] w a }) };
 
-    ghost fenced = { Prim.search rules };
+    ghost fenced = { λ s t f e. tt };
 
-    ghost cleared = { Prim.search rules };
+    ghost cleared = { λ s t e. refl };
 
     fn access<M: Memory>(&mut self, memory: &M, roots: Roots, access: Access) -> Reply {
         walked(memory, roots, access)
