@@ -11,3 +11,6 @@ mod results;
 pub use loads::{cardreader_loads_nested, cardreader_loads_shadow, cardreader_loads_tlb};
 pub use plays::{cardreader_play_nested, cardreader_play_shadow, cardreader_play_tlb_tlb_shadow};
 pub use results::{Loaded, Played};
+
+#[cfg(test)]
+mod tests;
