@@ -1,5 +1,5 @@
 -- A fault as the six numbers of a report: cause, virtual address, guest-physical address, stage, guest level, host level.
-use Rattle.std.specs.Prelude.{ℕ, ◌/◌}
+use Rattle.std.specs.Prelude.{ℕ, ◌/◌, Some, None, Option}
 use Rattle.table.specs.declared.walks.WalkFault.TheVariants.{Source, Stopped}
 use Rattle.access.specs.declared.accesses.Kind.{Kind}
 use Rattle.access.specs.declared.accesses.Kind.TheVariants.{Load, Store, Fetch}
@@ -13,29 +13,26 @@ use Rattle.fault.specs.declared.numbers.Stage.TheVariants.{Alignment, Guest, Hos
 use Rattle.fault.specs.declared.numbers.Place.{Place}
 use Rattle.fault.specs.declared.numbers.Numbers.{Numbers}
 
--- the level where there is none: none was read, or the stage was passed
-abbrev pub no_level : ℕ
-no_level = 3
-
-abbrev pub place : Stage → ℕ → ℕ → ℕ → Place
+-- a guest-physical address is named where the host stage did not translate it, and a level where an entry of it was wanted
+abbrev pub place : Stage → Option ℕ → Option ℕ → Option ℕ → Place
 place s gpa gl hl = record { stage = s; guest_physical = gpa; guest_level = gl; host_level = hl }
 
 -- where the host stage of an address faults, gl being the guest level whose entry was wanted
-abbrev pub host_place : ℕ → ℕ → HostFault → Place
-host_place gl address OutOfRange = place Host (address / 4) gl no_level
-host_place gl address (Walk (Stopped level)) = place Host (address / 4) gl level
-host_place gl address (Walk (Source level o)) = place Memory 0 gl level
-host_place gl address (Denied level) = place Host (address / 4) gl level
-host_place gl address (Word o) = place Memory 0 gl no_level
+abbrev pub host_place : Option ℕ → ℕ → HostFault → Place
+host_place gl address OutOfRange = place Host (Some address) gl None
+host_place gl address (Walk (Stopped level)) = place Host (Some address) gl (Some level)
+host_place gl address (Walk (Source level o)) = place Memory None gl (Some level)
+host_place gl address (Denied level) = place Host (Some address) gl (Some level)
+host_place gl address (Word o) = place Memory None gl None
 
 -- where an access faults
 abbrev pub place_of : GuestFault → Place
-place_of guest.Misaligned = place Alignment 0 no_level no_level
-place_of guest.NotCanonical = place Guest 0 no_level no_level
-place_of (guest.Walk (Stopped level)) = place Guest 0 level no_level
-place_of (guest.Walk (Source level u)) = host_place level u.address u.fault
-place_of (guest.Denied level) = place Guest 0 level no_level
-place_of (guest.Host u) = host_place no_level u.address u.fault
+place_of guest.Misaligned = place Alignment None None None
+place_of guest.NotCanonical = place Guest None None None
+place_of (guest.Walk (Stopped level)) = place Guest None (Some level) None
+place_of (guest.Walk (Source level u)) = host_place (Some level) u.address u.fault
+place_of (guest.Denied level) = place Guest None (Some level) None
+place_of (guest.Host u) = host_place None u.address u.fault
 
 abbrev pub stage_number : Stage → ℕ
 stage_number Alignment = 0
@@ -58,9 +55,26 @@ cause_of Memory Load = 5
 cause_of Memory Store = 7
 cause_of Memory Fetch = 1
 
+-- the number of a level, or 3 where there is none
+abbrev pub level_number : Option ℕ → ℕ
+level_number None = 3
+level_number (Some level) = level
+
+-- the guest-physical address shifted right by 2, or 0 where there is none
+abbrev pub address_number : Option ℕ → ℕ
+address_number None = 0
+address_number (Some address) = address / 4
+
 abbrev pub numbers_at : Kind → ℕ → Place → Numbers
 numbers_at k va at =
-    record { cause = cause_of at.stage k; address = va; guest_physical = at.guest_physical; stage = stage_number at.stage; guest_level = at.guest_level; host_level = at.host_level }
+    record {
+      cause = cause_of at.stage k;
+      address = va;
+      guest_physical = address_number at.guest_physical;
+      stage = stage_number at.stage;
+      guest_level = level_number at.guest_level;
+      host_level = level_number at.host_level;
+    }
 
 abbrev pub numbers_of : Fault → Numbers
 numbers_of f = numbers_at f.kind f.address (place_of f.reason)

@@ -1,30 +1,30 @@
 //! A fault as the six numbers of a report.
-ghost use Rattle.std.specs.Prelude.{◌≡◌};
-ghost use Rattle.fault.specs.Numbers.{place, host_place, place_of, stage_number, cause_of, numbers_of};
+ghost use Rattle.std.specs.Prelude.{◌≡◌, None};
+ghost use Rattle.fault.specs.Numbers.{place, host_place, place_of, level_number, stage_number, cause_of, numbers_of};
 
 use crate::faults::{Fault, GuestFault, HostFault, Unreached};
 use access::Kind;
 use table::WalkFault;
 
-/// The level where there is none: none was read, or the stage was passed.
-const NO_LEVEL: u8 = 3;
-
-/// The stage at which an access faults.
-#[derive(Clone, Copy)]
+/// The stage at which an access faults, by its number.
+#[derive(Clone, Copy, PartialEq, Eq, Debug)]
 pub enum Stage {
-    Alignment,
-    Guest,
-    Host,
-    Memory,
+    Alignment = 0,
+    Guest = 1,
+    Host = 2,
+    Memory = 3,
 }
 
 /// Where an access faults.
-#[derive(Clone, Copy)]
+#[derive(Clone, Copy, PartialEq, Eq, Debug)]
 pub struct Place {
     pub stage: Stage,
-    pub guest_physical: u64,
-    pub guest_level: u8,
-    pub host_level: u8,
+    /// The guest-physical address that the host stage did not translate.
+    pub guest_physical: Option<u64>,
+    /// The level of the guest's entry: none where none was wanted, or the guest's stage was passed.
+    pub guest_level: Option<u8>,
+    /// The level of the host's entry: none where none was wanted, or the host's stage was passed.
+    pub host_level: Option<u8>,
 }
 
 /// The six numbers of a fault.
@@ -35,8 +35,17 @@ pub struct Numbers {
     /// At stage 2 the guest-physical address shifted right by 2, else 0.
     pub guest_physical: u64,
     pub stage: u8,
+    /// 3 for none.
     pub guest_level: u8,
+    /// 3 for none.
     pub host_level: u8,
+}
+
+// The number of a level, or 3 for none.
+fn level_number(level: Option<u8>) -> u8
+    ensures { result ≡ level_number level }
+{
+    level.unwrap_or(3)
 }
 
 impl Stage {
@@ -44,12 +53,7 @@ impl Stage {
     pub fn number(self) -> u8
         ensures { result ≡ stage_number self }
     {
-        match self {
-            Stage::Alignment => 0,
-            Stage::Guest => 1,
-            Stage::Host => 2,
-            Stage::Memory => 3,
-        }
+        self as u8
     }
 
     /// The cause of a fault at this stage, by the kind of the access that was asked for.
@@ -74,37 +78,33 @@ impl Stage {
 }
 
 // Where the host stage faults, `guest_level` being the level whose entry was wanted.
-fn host_place(guest_level: u8, unreached: Unreached) -> Place
+fn host_place(guest_level: Option<u8>, unreached: Unreached) -> Place
     ensures { result ≡ host_place guest_level unreached.address unreached.fault }
 {
     let (stage, host_level) = match unreached.fault {
-        HostFault::OutOfRange => (Stage::Host, NO_LEVEL),
-        HostFault::Walk(WalkFault::Stopped { level }) => (Stage::Host, level),
-        HostFault::Walk(WalkFault::Source { level, .. }) => (Stage::Memory, level),
-        HostFault::Denied { level } => (Stage::Host, level),
-        HostFault::Word(_) => (Stage::Memory, NO_LEVEL),
-    };
-    let guest_physical = match stage {
-        Stage::Host => unreached.address / 4,
-        _ => 0,
+        HostFault::OutOfRange => (Stage::Host, None),
+        HostFault::Walk(WalkFault::Stopped { level }) => (Stage::Host, Some(level)),
+        HostFault::Walk(WalkFault::Source { level, .. }) => (Stage::Memory, Some(level)),
+        HostFault::Denied { level } => (Stage::Host, Some(level)),
+        HostFault::Word(_) => (Stage::Memory, None),
     };
     Place {
         stage,
-        guest_physical,
+        guest_physical: (stage == Stage::Host).then_some(unreached.address),
         guest_level,
         host_level,
     }
 }
 
 // A place of the guest's own walk.
-fn guest_place(stage: Stage, guest_level: u8) -> Place
-    ensures { result ≡ place stage 0 guest_level 3 }
+fn guest_place(stage: Stage, guest_level: Option<u8>) -> Place
+    ensures { result ≡ place stage None guest_level None }
 {
     Place {
         stage,
-        guest_physical: 0,
+        guest_physical: None,
         guest_level,
-        host_level: NO_LEVEL,
+        host_level: None,
     }
 }
 
@@ -114,12 +114,12 @@ impl GuestFault {
         ensures { result ≡ place_of self }
     {
         match self {
-            GuestFault::Misaligned => guest_place(Stage::Alignment, NO_LEVEL),
-            GuestFault::NotCanonical => guest_place(Stage::Guest, NO_LEVEL),
-            GuestFault::Walk(WalkFault::Stopped { level }) => guest_place(Stage::Guest, level),
-            GuestFault::Walk(WalkFault::Source { level, fault }) => host_place(level, fault),
-            GuestFault::Denied { level } => guest_place(Stage::Guest, level),
-            GuestFault::Host(fault) => host_place(NO_LEVEL, fault),
+            GuestFault::Misaligned => guest_place(Stage::Alignment, None),
+            GuestFault::NotCanonical => guest_place(Stage::Guest, None),
+            GuestFault::Walk(WalkFault::Stopped { level }) => guest_place(Stage::Guest, Some(level)),
+            GuestFault::Walk(WalkFault::Source { level, fault }) => host_place(Some(level), fault),
+            GuestFault::Denied { level } => guest_place(Stage::Guest, Some(level)),
+            GuestFault::Host(fault) => host_place(None, fault),
         }
     }
 }
@@ -133,10 +133,10 @@ impl Fault {
         Numbers {
             cause: place.stage.cause(self.kind),
             address: self.address,
-            guest_physical: place.guest_physical,
+            guest_physical: place.guest_physical.map_or(0, |address| address / 4),
             stage: place.stage.number(),
-            guest_level: place.guest_level,
-            host_level: place.host_level,
+            guest_level: level_number(place.guest_level),
+            host_level: level_number(place.host_level),
         }
     }
 }

@@ -4,27 +4,27 @@
 ghost use Rattle.std.specs.Prelude.{◌≡◌};
 ghost use Rattle.refusal.specs.Numbers.{number_of};
 
-/// What is refused.
+/// What is refused, by the number that is reported.
 #[derive(Clone, Copy, PartialEq, Eq, Debug)]
 pub enum Refusal {
     /// The image is not 1 to 4,096 whole frames, the trace's first line is bad, or the two differ.
-    Frames,
+    Frames = 1,
     /// The pool is not whole frames, or has fewer than 4.
-    Pool,
+    Pool = 2,
     /// The guest root register breaks its layout.
-    GuestRoot,
+    GuestRoot = 3,
     /// The host root register breaks its layout.
-    HostRoot,
+    HostRoot = 4,
     /// The host address is not a multiple of 8, or lies outside the memory.
-    HostAddress,
+    HostAddress = 5,
     /// The call belongs to the other side.
-    OtherSide,
+    OtherSide = 6,
     /// The ASID of the fence is over 15.
-    FenceAsid,
+    FenceAsid = 7,
     /// The call could not be read.
-    Unreadable,
+    Unreadable = 8,
     /// Too many calls, or too small a report.
-    Room,
+    Room = 9,
 }
 
 impl Refusal {
@@ -32,16 +32,6 @@ impl Refusal {
     pub fn number(self) -> u8
         ensures { result ≡ number_of self }
     {
-        match self {
-            Refusal::Frames => 1,
-            Refusal::Pool => 2,
-            Refusal::GuestRoot => 3,
-            Refusal::HostRoot => 4,
-            Refusal::HostAddress => 5,
-            Refusal::OtherSide => 6,
-            Refusal::FenceAsid => 7,
-            Refusal::Unreadable => 8,
-            Refusal::Room => 9,
-        }
+        self as u8
     }
 }

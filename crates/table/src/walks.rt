@@ -99,14 +99,12 @@ fn descend<S: TableSource>(
     ensures answer { result ≡ walk_of (S.reads source.now) table.top (bits_of table.index) table.root.number page.number }
     ensures fits { IfOk result (λ leaf. leaf.frame < 2 ^ 52) }
 {
-    let mut level = table.top;
     let mut frame = table.root;
     let mut global = false;
-    loop {
-        let word = match source.read(frame, index(table, page, level)) {
-            Ok(word) => word,
-            Err(fault) => return Err(WalkFault::Source { level, fault }),
-        };
+    for level in (0..=table.top).rev() {
+        let word = source
+            .read(frame, index(table, page, level))
+            .map_err(|fault| WalkFault::Source { level, fault })?;
         let entry = Entry { word };
         global = global | entry.is_global();
         if entry.stops(level) {
@@ -115,9 +113,10 @@ fn descend<S: TableSource>(
         if !entry.is_pointer() {
             return Ok(Leaf::of(page, level, entry, global));
         }
-        level -= 1;
         frame = entry.frame();
     }
+    // a pointer of level 0 has stopped the walk
+    unreachable()
 }
 
 /// The walk of `table` for `page`: a leaf exactly if a chain of entries leads there from the root, a fault at a level exactly if the chain ends there.
