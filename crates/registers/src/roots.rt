@@ -41,22 +41,20 @@ fn is_paged(register: u64) -> bool
 fn table_of(register: u64, index: RootIndex) -> Option<Table>
     ensures { IsTable register index result }
 {
-    if is_paged(register) {
-        Some(Table {
-            root: root_frame(register),
-            top: TOP,
-            index,
-        })
-    } else {
-        None
-    }
+    is_paged(register).then_some(Table {
+        root: root_frame(register),
+        top: TOP,
+        index,
+    })
 }
 
-impl GuestRoot {
-    /// The root that a register holds, where it keeps its layout.
-    pub fn decode(register: u64) -> Result<GuestRoot, Refusal>
-        ensures { DecodesTo (is_guest_root register) (λ root. root.register ≡ register) bad_guest result }
-    {
+/// The root that a register holds, where it keeps its layout.
+impl TryFrom<u64> for GuestRoot {
+    type Error = Refusal;
+
+    ghost try_from_gives = { λ register result. DecodesTo (is_guest_root register) (λ root. root.register ≡ register) bad_guest result };
+
+    fn try_from(register: u64) -> Result<GuestRoot, Refusal> {
         let paged = is_paged(register) && (register >> 44) % (1 << 16) <= 15;
         if register == 0 || paged {
             Ok(GuestRoot { register })
@@ -64,7 +62,9 @@ impl GuestRoot {
             Err(Refusal::GuestRoot)
         }
     }
+}
 
+impl GuestRoot {
     /// The table to walk, or none under Bare.
     pub fn table(self) -> Option<Table>
         ensures { IsTable self.register Nine result }
@@ -81,11 +81,13 @@ impl GuestRoot {
     }
 }
 
-impl HostRoot {
-    /// The root that a register holds, where it keeps its layout.
-    pub fn decode(register: u64) -> Result<HostRoot, Refusal>
-        ensures { DecodesTo (is_host_root register) (λ root. root.register ≡ register) bad_host result }
-    {
+/// The root that a register holds, where it keeps its layout.
+impl TryFrom<u64> for HostRoot {
+    type Error = Refusal;
+
+    ghost try_from_gives = { λ register result. DecodesTo (is_host_root register) (λ root. root.register ≡ register) bad_host result };
+
+    fn try_from(register: u64) -> Result<HostRoot, Refusal> {
         let paged = is_paged(register) && (register >> 44) % (1 << 16) == 0 && register % 4 == 0;
         if register == 0 || paged {
             Ok(HostRoot { register })
@@ -93,7 +95,9 @@ impl HostRoot {
             Err(Refusal::HostRoot)
         }
     }
+}
 
+impl HostRoot {
     /// The table to walk, whose first table fills four frames, or none under Bare.
     pub fn table(self) -> Option<Table>
         ensures { IsTable self.register Eleven result }
