@@ -4,29 +4,25 @@
 ghost use Rattle.history_examples.specs.Editing.{FencedAnswers, FencedSettled, UnfencedUnsettled, UnfencedStale};
 
 /// What the plain machine answers to the calls with the fence.
-pub fn fenced_answers() -> u8
+pub fn fenced_answers()
     ensures { FencedAnswers }
 {
-    0
 }
 
 /// With the fence every access is settled.
-pub fn fenced_settled() -> u8
+pub fn fenced_settled()
     ensures { FencedSettled }
 {
-    0
 }
 
 /// Without it the last load is not.
-pub fn unfenced_unsettled() -> u8
+pub fn unfenced_unsettled()
     ensures { UnfencedUnsettled }
 {
-    0
 }
 
 /// And it may answer what the plain machine does not.
-pub fn unfenced_stale() -> u8
+pub fn unfenced_stale()
     ensures { UnfencedStale }
 {
-    0
 }

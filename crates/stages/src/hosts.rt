@@ -27,62 +27,72 @@ impl<'a, M: Memory> TableSource for HostMemory<'a, M> {
     }
 }
 
-// The path of a guest-physical page, whatever the rights.
-fn host_path<M: Memory>(memory: &M, root: HostRoot, page: Page) -> Result<Landing, HostFault>
-    ensures answer { result ≡ host_path (M.words memory.now) root.register page.number }
-    ensures fits { IfOk result (λ at. at.frame < 2 ^ 52) }
-{
-    let Some(table) = root.table() else {
-        return Ok(Landing {
-            frame: page.number,
-            leaf: None,
-        });
-    };
-    if page.number >> 29 != 0 {
-        return Err(HostFault::OutOfRange);
-    }
-    let leaf = walk(&HostMemory { memory }, table, page)?;
-    Ok(Landing {
-        frame: leaf.frame,
-        leaf: Some(leaf),
-    })
-}
-
-// The host stage for a kind of access.
-fn host_stage<M: Memory>(
-    memory: &M,
-    root: HostRoot,
-    kind: Kind,
-    page: Page,
-) -> Result<Landing, HostFault>
-    ensures answer { result ≡ host_stage (M.words memory.now) root.register kind page.number }
-    ensures fits { IfOk result (λ at. at.frame < 2 ^ 52) }
-{
-    let at = host_path(memory, root, page)?;
-    match at.leaf {
-        Some(leaf) if !kind.host_allows(leaf.entry) => Err(HostFault::Denied { level: leaf.level }),
-        _ => Ok(at),
-    }
-}
-
-// A load of one word of the guest's physical memory.
-fn host_load<M: Memory>(memory: &M, root: HostRoot, word: u64) -> Result<u64, HostFault>
-    requires { word < 2 ^ 61 }
-    ensures { result ≡ host_load (M.words memory.now) root.register word }
-{
-    let page = Page { number: word / 512 };
-    let at = host_stage(memory, root, Kind::Load, page)?;
-    let value = memory.read(at.frame * 512 + word % 512)?;
-    Ok(value)
-}
-
-/// The guest's physical memory as a source of table words: each is a load through the host stage.
+/// The guest's physical memory: the host's, reached through the host stage.
 #[derive(Drop)]
 pub struct GuestMemory<'a, M> {
     pub memory: &'a M,
     pub root: HostRoot,
 }
 
+impl<'a, M: Memory> GuestMemory<'a, M> {
+    // The path of a guest-physical page, whatever the rights.
+    fn path(&self, page: Page) -> Result<Landing, HostFault>
+        ensures answer { result ≡ host_path (M.Memory.words self.now.memory.now) self.now.root.register page.number }
+        ensures fits { IfOk result (λ at. at.frame < 2 ^ 52) }
+    {
+        let Some(table) = self.root.table() else {
+            return Ok(Landing::bare(page));
+        };
+        if page.number >> 29 != 0 {
+            return Err(HostFault::OutOfRange);
+        }
+        let source = HostMemory {
+            memory: self.memory,
+        };
+        let leaf = walk(&source, table, page)?;
+        Ok(Landing::by_leaf(leaf))
+    }
+
+    // The host stage for a kind of access.
+    fn stage(&self, kind: Kind, page: Page) -> Result<Landing, HostFault>
+        ensures answer { result ≡ host_stage (M.Memory.words self.now.memory.now) self.now.root.register kind page.number }
+        ensures fits { IfOk result (λ at. at.frame < 2 ^ 52) }
+    {
+        let at = self.path(page)?;
+        match at.leaf {
+            Some(leaf) if !kind.host_allows(leaf.entry) => Err(HostFault::Denied {
+                level: leaf.level,
+            }),
+            _ => Ok(at),
+        }
+    }
+
+    // A load of one word.
+    fn load(&self, word: u64) -> Result<u64, HostFault>
+        requires { word < 2 ^ 61 }
+        ensures { result ≡ host_load (M.Memory.words self.now.memory.now) self.now.root.register word }
+    {
+        let page = Page { number: word / 512 };
+        let at = self.stage(Kind::Load, page)?;
+        let value = self.memory.read(at.frame * 512 + word % 512)?;
+        Ok(value)
+    }
+
+    /// The host stage of the final address of an access, whose frame has to lie inside the memory.
+    pub(crate) fn reach(&self, kind: Kind, page: Page) -> Result<Landing, HostFault>
+        ensures answer { result ≡ host_reach (M.Memory.words self.now.memory.now) self.now.root.register kind page.number }
+        ensures inside { IfOk result (λ at. at.frame < 4096) }
+    {
+        let at = self.stage(kind, page)?;
+        if at.frame < self.memory.frames() {
+            Ok(at)
+        } else {
+            Err(HostFault::Word(Outside))
+        }
+    }
+}
+
+// As a source of table words: each is a load.
 impl<'a, M: Memory> TableSource for GuestMemory<'a, M> {
     type Fault = Unreached;
 
@@ -90,30 +100,9 @@ impl<'a, M: Memory> TableSource for GuestMemory<'a, M> {
 
     fn read(&self, frame: Frame, index: u16) -> Result<u64, Unreached> {
         let word = frame.number * 512 + index as u64;
-        match host_load(self.memory, self.root, word) {
-            Ok(value) => Ok(value),
-            Err(fault) => Err(Unreached {
-                address: word * 8,
-                fault,
-            }),
-        }
-    }
-}
-
-// The host stage of the final address of an access, whose frame has to lie inside the memory.
-pub fn host_reach<M: Memory>(
-    memory: &M,
-    root: HostRoot,
-    kind: Kind,
-    page: Page,
-) -> Result<Landing, HostFault>
-    ensures answer { result ≡ host_reach (M.words memory.now) root.register kind page.number }
-    ensures inside { IfOk result (λ at. at.frame < 4096) }
-{
-    let at = host_stage(memory, root, kind, page)?;
-    if at.frame < memory.frames() {
-        Ok(at)
-    } else {
-        Err(HostFault::Word(Outside))
+        self.load(word).map_err(|fault| Unreached {
+            address: word * 8,
+            fault,
+        })
     }
 }

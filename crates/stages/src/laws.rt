@@ -2,8 +2,7 @@
 ghost use Rattle.stages.specs.Laws.{BothBare};
 
 /// With both stages Bare an access goes to the address itself.
-pub fn both_bare() -> u8
+pub fn both_bare()
     ensures { BothBare }
 {
-    0
 }

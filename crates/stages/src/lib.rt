@@ -6,9 +6,10 @@ mod landings;
 mod laws;
 mod outcomes;
 mod translations;
+mod worlds;
 
 pub use hosts::{GuestMemory, HostMemory};
 pub use landings::Landing;
 pub use laws::both_bare;
 pub use outcomes::Translation;
-pub use translations::translate;
+pub use worlds::World;

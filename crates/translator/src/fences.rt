@@ -16,14 +16,10 @@ impl Fence {
     pub fn covers(self, grant: Grant) -> bool
         ensures { result ≡ covers_grant self grant }
     {
-        let page = match self.address {
-            Some(address) => address >> 12 == grant.page,
-            None => true,
-        };
-        let asid = match self.asid {
-            Some(asid) => asid == grant.asid && !grant.global,
-            None => true,
-        };
-        page && asid
+        self.address
+            .is_none_or(|address| address >> 12 == grant.page)
+            && self
+                .asid
+                .is_none_or(|asid| asid == grant.asid && !grant.global)
     }
 }

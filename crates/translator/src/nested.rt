@@ -12,7 +12,7 @@ use crate::replies::{Reply, walked};
 use crate::translators::Translator;
 use access::Access;
 use memory::Memory;
-use registers::Roots;
+use stages::World;
 
 /// Walks both stages at every access: its book is empty.
 #[derive(Drop)]
@@ -36,8 +36,8 @@ impl Translator for Nested {
 
     ghost cleared = { λ s t e. refl };
 
-    fn access<M: Memory>(&mut self, memory: &M, roots: Roots, access: Access) -> Reply {
-        walked(memory, roots, access)
+    fn access<M: Memory>(&mut self, world: &World<'_, M>, access: Access) -> Reply {
+        walked(world, access)
     }
 
     fn fence(&mut self, _fence: Fence) {}

@@ -1,7 +1,7 @@
 //! The rules of a translator.
 ghost use Rattle.std.specs.Prelude.{◌≡◌, ℕ, List, []};
 ghost use Rattle.access.specs.declared.accesses.Access.{Access};
-ghost use Rattle.stages.specs.Stages.{World, world_of};
+ghost use Rattle.stages.specs.Stages.{World as Seen};
 ghost use Rattle.translator.specs.declared.grants.Grant.{Grant};
 ghost use Rattle.translator.specs.declared.fences.Fence.{Fence};
 ghost use Rattle.translator.specs.declared.replies.Reply.{Reply};
@@ -11,7 +11,7 @@ use crate::fences::Fence;
 use crate::replies::Reply;
 use access::Access;
 use memory::Memory;
-use registers::Roots;
+use stages::World;
 
 /// What answers accesses, from grants that it remembers or by the walk. Code above knows these rules and nothing else of it.
 pub trait Translator {
@@ -19,7 +19,7 @@ pub trait Translator {
     ghost book: { Self → List Grant };
 
     // What one access does to a translator of this kind: before, world, access, reply, after.
-    ghost answers: { Self → World → Access → Reply → Self → Type 0 };
+    ghost answers: { Self → Seen → Access → Reply → Self → Type 0 };
 
     // What one guest fence does.
     ghost forgets: { Self → Fence → Self → Type 0 };
@@ -27,9 +27,9 @@ pub trait Translator {
     // What one host fence does.
     ghost clears: { Self → Self → Type 0 };
 
-    /// Answers an access. The memory is only read.
-    fn access<M: Memory>(&mut self, memory: &M, roots: Roots, access: Access) -> Reply
-        ensures { answers self.old (world_of (M.Memory.words memory.now) roots) access result self.new };
+    /// Answers an access of the world. Its memory is only read.
+    fn access<M: Memory>(&mut self, world: &World<'_, M>, access: Access) -> Reply
+        ensures { answers self.old world.now access result self.new };
 
     /// Forgets each grant that the fence covers.
     fn fence(&mut self, fence: Fence)
@@ -39,7 +39,7 @@ pub trait Translator {
     fn host_fence(&mut self)
         ensures { clears self.old self.new };
 
-    ghost answered: { (s t : Self) (w : World) (a : Access) (r : Reply) → answers s w a r t → Answered (book s) w a r (book t) };
+    ghost answered: { (s t : Self) (w : Seen) (a : Access) (r : Reply) → answers s w a r t → Answered (book s) w a r (book t) };
 
     ghost fenced: { (s t : Self) (f : Fence) → forgets s f t → Fenced (book s) f (book t) };
 
