@@ -1,9 +1,9 @@
 //! The calls that a machine takes, and its answers.
 #![tactic(auto)]
 
-ghost use Rattle.std.specs.Prelude.{◌≡◌};
+ghost use Rattle.std.specs.Prelude.{◌≡◌, MatchResult};
+ghost use Rattle.calls.specs.declared.Answer.TheVariants.{Done, Word, Faulted, Refused};
 ghost use Rattle.calls.specs.Targets.{access_of};
-ghost use Rattle.calls.specs.Answers.{word_or_refusal, done_or_refusal, word_or_fault, done_or_fault};
 
 use access::{Access, Kind, Mode};
 use fault::Fault;
@@ -81,46 +81,46 @@ impl Target {
     }
 }
 
-impl From<Result<u64, Refusal>> for Answer {
-    ghost from_gives = { λ r x. x ≡ word_or_refusal r };
+impl From<()> for Answer {
+    ghost from_gives = { λ _ x. x ≡ Done };
 
-    fn from(res: Result<u64, Refusal>) -> Answer {
-        match res {
-            Ok(word) => Answer::Word(word),
-            Err(refusal) => Answer::Refused(refusal),
-        }
+    fn from(_done: ()) -> Answer {
+        Answer::Done
     }
 }
 
-impl From<Result<(), Refusal>> for Answer {
-    ghost from_gives = { λ r x. x ≡ done_or_refusal r };
+impl From<u64> for Answer {
+    ghost from_gives = { λ word x. x ≡ Word word };
 
-    fn from(res: Result<(), Refusal>) -> Answer {
-        match res {
-            Ok(()) => Answer::Done,
-            Err(refusal) => Answer::Refused(refusal),
-        }
+    fn from(word: u64) -> Answer {
+        Answer::Word(word)
     }
 }
 
-impl From<Result<u64, Fault>> for Answer {
-    ghost from_gives = { λ r x. x ≡ word_or_fault r };
+impl From<Fault> for Answer {
+    ghost from_gives = { λ fault x. x ≡ Faulted fault };
 
-    fn from(res: Result<u64, Fault>) -> Answer {
-        match res {
-            Ok(word) => Answer::Word(word),
-            Err(fault) => Answer::Faulted(fault),
-        }
+    fn from(fault: Fault) -> Answer {
+        Answer::Faulted(fault)
     }
 }
 
-impl From<Result<(), Fault>> for Answer {
-    ghost from_gives = { λ r x. x ≡ done_or_fault r };
+impl From<Refusal> for Answer {
+    ghost from_gives = { λ refusal x. x ≡ Refused refusal };
 
-    fn from(res: Result<(), Fault>) -> Answer {
+    fn from(refusal: Refusal) -> Answer {
+        Answer::Refused(refusal)
+    }
+}
+
+// What came of a call, or why nothing did.
+impl<T: Into<Answer>, E: Into<Answer>> From<Result<T, E>> for Answer {
+    ghost from_gives = { λ r x. MatchResult r (λ value. T.converts value x) (λ error. E.converts error x) };
+
+    fn from(res: Result<T, E>) -> Answer {
         match res {
-            Ok(()) => Answer::Done,
-            Err(fault) => Answer::Faulted(fault),
+            Ok(value) => value.into(),
+            Err(error) => error.into(),
         }
     }
 }

@@ -11,7 +11,7 @@ use Rattle.exports.specs.Loads.{load_from, word_at, LoadsWord, LoadsFrom}
 module _ {S : Type 0} {members : Ghosts S} where
   -- no load yet
   pub loads_none : (m : Moment) (s : S) → LoadsFrom members m s [] s 0
-  loads_none m s = record { given = []; ran = ran_none members.answers members.forgets members.clears m s; total = refl }
+  loads_none m s = record { given = []; ran = ran_none members m s; total = refl }
 
   -- one load more
   pub loads_more : (m : Moment) (s : S) (addresses : List ℕ) (i : ℕ) (t : S) (sum : ℕ) (u : S) (word : ℕ)
@@ -21,7 +21,7 @@ module _ {S : Type 0} {members : Ghosts S} where
     given = loads.given ++ load.0 ∷ [];
     ran =
         rw (map_more load_from addresses i 0 below)
-        (ran_push members.answers members.forgets members.clears m s (map load_from (take i addresses)) loads.given m t
+        (ran_push members m s (map load_from (take i addresses)) loads.given m t
         (load_from (get_or addresses i 0)) load.0 m u loads.ran load.1);
     total =
         ap (λ n. (n + word) % 2 ^ 64) loads.total

@@ -66,7 +66,7 @@ module _ (ws : List ℕ) (guestRoot hostRoot : ℕ) (addresses : List ℕ) where
         | inr l ↦ inr (subst (λ w. walked_to w a ≡ Ok frame) (late i l ∙ sym (late k (omega arith))) gives)
       ]
 
-module _ {S : Type 0} (members : Ghosts S) (agree : RunsAgree members.answers members.forgets members.clears) where
+module _ {S : Type 0} (members : Ghosts S) (agree : RunsAgree members) where
   -- the sum of a run over any translator is the plain machine's
   pub sum_is_plain : (s : S) (ws : List ℕ) (guestRoot hostRoot : ℕ) (addresses : List ℕ) (sum : ℕ) → is_guest_root guestRoot ≡ true → is_host_root hostRoot ≡ true
       → FromRun members s ws guestRoot hostRoot addresses (Ok sum) → Ok sum ≡ plain_sum ws guestRoot hostRoot addresses

@@ -48,19 +48,19 @@ module _ {S : Type 0} (members : Ghosts S) where
   -- one load, from the translator s to the translator t: it leaves the machine at its moment m, and answers a word or a fault
   abbrev pub LoadsWord : Moment → S → ℕ → S → ℕ → Type 0
   LoadsWord m s address t word =
-      (x : Answer) × Step members.answers members.forgets members.clears m s (load_from address) x m t × (word ≡ word_at x)
+      (x : Answer) × Step members m s (load_from address) x m t × (word ≡ word_at x)
 
   -- loads in turn: their answers are those of a run, and the sum is theirs
   pub record LoadsFrom (m : Moment) (s : S) (addresses : List ℕ) (t : S) (sum : ℕ) : Type 0 where
     pub given : List Answer
-    pub ran : Ran members.answers members.forgets members.clears m s (map load_from addresses) given m t
+    pub ran : Ran members m s (map load_from addresses) given m t
     pub total : sum ≡ sum_of given
 
   -- a sum is that of the answers of a run over the translator s
   abbrev pub FromRun : S → List ℕ → ℕ → ℕ → List ℕ → Result ℕ Refusal → Type 0
   FromRun s ws guest host addresses (Ok sum) =
       (given : List Answer) × (end : Moment) × (t : S)
-      × Played members.answers members.forgets members.clears (start ws) s (load_calls guest host addresses) given end t × (sum ≡ sum_of given)
+      × Played members (start ws) s (load_calls guest host addresses) given end t × (sum ≡ sum_of given)
   FromRun s ws guest host addresses (Err refusal) = Unit {0}
 
   -- loads over the translator s come to what the plain machine's come to, and by a run of this translator

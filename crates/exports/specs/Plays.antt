@@ -12,7 +12,7 @@ module _ {S : Type 0} (members : Ghosts S) where
   abbrev pub PlaysOver : S → List ℕ → List ℕ → List ℕ → Played → List ℕ → List ℕ → Type 0
   PlaysOver s image trace report p image' report' =
       (r : Result ℕ Refusal) × (t : S) × (p ≡ played_of r)
-      × Plays members.answers members.forgets members.clears image s trace report r image' t report'
+      × Plays members image s trace report r image' t report'
 
   -- over the translator that was made; or no memory could be had for one, and nothing changes
   unfoldable pub PlaysOn : Result S AllocError → List ℕ → List ℕ → List ℕ → Played → List ℕ → List ℕ → Type 0

@@ -5,6 +5,7 @@ use Rattle.access.specs.declared.accesses.Access.{Access}
 use Rattle.stages.specs.Stages.{World}
 use Rattle.translator.specs.declared.fences.Fence.{Fence}
 use Rattle.translator.specs.declared.replies.Reply.{Reply}
+use Rattle.translator.specs.declared.translators.Translator.{Ghosts}
 use Rattle.calls.specs.declared.Call.{Call}
 use Rattle.calls.specs.declared.Answer.{Answer}
 use Rattle.history.specs.Moments.{Moment}
@@ -16,7 +17,7 @@ abbrev before : {X : Type 0} → X → (ℕ → X) → ℕ → X
 before x f zero = x
 before x f (suc k) = f k
 
-module _ {S : Type 0} (answers : S → World → Access → Reply → S → Type 0) (forgets : S → Fence → S → Type 0) (clears : S → S → Type 0) where
+module _ {S : Type 0} (T : Ghosts S) where
   pub record Traced (m : Moment) (s : S) (cs : List Call) (xs : List Answer) (end : Moment) (t : S) : Type 0 where
     pub at : ℕ → Moment
     pub state : ℕ → S
@@ -26,12 +27,12 @@ module _ {S : Type 0} (answers : S → World → Access → Reply → S → Type
     pub left : state (length cs) ≡ t
     pub many : length xs ≡ length cs
     pub steps : (k : ℕ) (c : Call) (x : Answer) → slice_get cs k ≡ Some c → slice_get xs k ≡ Some x
-        → Step answers forgets clears (at k) (state k) c x (at (suc k)) (state (suc k))
+        → Step T (at k) (state k) c x (at (suc k)) (state (suc k))
 
   module _ (m : Moment) (s : S) (c : Call) (cs : List Call) (x : Answer) (xs : List Answer) (end : Moment) (t : S) (n : Moment) (u : S)
-      (step : Step answers forgets clears m s c x n u) (rest : Traced n u cs xs end t) where
+      (step : Step T m s c x n u) (rest : Traced n u cs xs end t) where
     steps_on : (k : ℕ) (d : Call) (y : Answer) → slice_get (c ∷ cs) k ≡ Some d → slice_get (x ∷ xs) k ≡ Some y
-        → Step answers forgets clears (before m rest.at k) (before s rest.state k) d y (rest.at k) (rest.state k)
+        → Step T (before m rest.at k) (before s rest.state k) d y (rest.at k) (rest.state k)
     steps_on zero d y e f =
         let p : c ≡ d = cc in
         let q : x ≡ y = cc in
@@ -52,7 +53,7 @@ module _ {S : Type 0} (answers : S → World → Access → Reply → S → Type
           steps = steps_on;
         }
 
-  pub traced : (m : Moment) (s : S) (cs : List Call) (xs : List Answer) (end : Moment) (t : S) → Ran answers forgets clears m s cs xs end t → Traced m s cs xs end t
+  pub traced : (m : Moment) (s : S) (cs : List Call) (xs : List Answer) (end : Moment) (t : S) → Ran T m s cs xs end t → Traced m s cs xs end t
   unfolding Ran
   traced m s [] [] end t r =
       record {

@@ -32,9 +32,9 @@ pub fn run<M: Memory, T: Translator>(
     translator: &mut T,
     calls: &[Call],
 ) -> Result<Ended, AllocError>
-    ensures played { IfOk result (λ e. Played T.Translator.answers T.Translator.forgets T.Translator.clears (start (M.Memory.words memory.old)) translator.old calls.now e.answers.items (moment_of (M.Memory.words memory.new) e.machine) translator.new) }
+    ensures played { IfOk result (λ e. Played T.Translator (start (M.Memory.words memory.old)) translator.old calls.now e.answers.items (moment_of (M.Memory.words memory.new) e.machine) translator.new) }
     ensures agrees { AllSettled (plain_at (start (M.Memory.words memory.old)) calls.now) calls.now → IfOk result (λ e. Agrees (start (M.Memory.words memory.old)) calls.now e.answers.items (moment_of (M.Memory.words memory.new) e.machine)) }
-    ensures faithful { IfOk result (λ e. FaithfulRun T.Translator.answers T.Translator.forgets T.Translator.clears (start (M.Memory.words memory.old)) translator.old calls.now e.answers.items (moment_of (M.Memory.words memory.new) e.machine) translator.new) }
+    ensures faithful { IfOk result (λ e. FaithfulRun T.Translator (start (M.Memory.words memory.old)) translator.old calls.now e.answers.items (moment_of (M.Memory.words memory.new) e.machine) translator.new) }
     ensures unchanged { OnErr result ((M.Memory.words memory.new ≡ M.Memory.words memory.old) × (translator.new ≡ translator.old)) }
     ensures rest_kept { M.Memory.rest memory.new ≡ M.Memory.rest memory.old }
     ensures lenders_kept { M.Memory.lenders memory.new ≡ M.Memory.lenders memory.old }

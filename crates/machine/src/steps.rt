@@ -24,7 +24,7 @@ fn host_step<M: Memory, T: Translator>(
     translator: &mut T,
     call: HostCall,
 ) -> (Machine, Answer)
-    ensures stepped { StepBy T.Translator.answers T.Translator.forgets T.Translator.clears (host_asks call) (host_moment (M.Memory.words memory.old) side.roots) translator.old (Host call) result.1 (moment_of (M.Memory.words memory.new) result.0) translator.new }
+    ensures stepped { StepBy T.Translator (host_asks call) (host_moment (M.Memory.words memory.old) side.roots) translator.old (Host call) result.1 (moment_of (M.Memory.words memory.new) result.0) translator.new }
     ensures rest_kept { M.Memory.rest memory.new ≡ M.Memory.rest memory.old }
     ensures lenders_kept { M.Memory.lenders memory.new ≡ M.Memory.lenders memory.old }
 {
@@ -48,7 +48,7 @@ fn guest_step<M: Memory, T: Translator>(
     translator: &mut T,
     call: GuestCall,
 ) -> (Machine, Answer)
-    ensures stepped { StepBy T.Translator.answers T.Translator.forgets T.Translator.clears (guest_asks call) (guest_moment (M.Memory.words memory.old) side.roots) translator.old (Guest call) result.1 (moment_of (M.Memory.words memory.new) result.0) translator.new }
+    ensures stepped { StepBy T.Translator (guest_asks call) (guest_moment (M.Memory.words memory.old) side.roots) translator.old (Guest call) result.1 (moment_of (M.Memory.words memory.new) result.0) translator.new }
     ensures rest_kept { M.Memory.rest memory.new ≡ M.Memory.rest memory.old }
     ensures lenders_kept { M.Memory.lenders memory.new ≡ M.Memory.lenders memory.old }
 {
@@ -71,7 +71,7 @@ impl Machine {
         translator: &mut T,
         call: Call,
     ) -> (Machine, Answer)
-        ensures stepped { Step T.Translator.answers T.Translator.forgets T.Translator.clears (moment_of (M.Memory.words memory.old) self) translator.old call result.1 (moment_of (M.Memory.words memory.new) result.0) translator.new }
+        ensures stepped { Step T.Translator (moment_of (M.Memory.words memory.old) self) translator.old call result.1 (moment_of (M.Memory.words memory.new) result.0) translator.new }
         ensures rest_kept { M.Memory.rest memory.new ≡ M.Memory.rest memory.old }
         ensures lenders_kept { M.Memory.lenders memory.new ≡ M.Memory.lenders memory.old }
     {

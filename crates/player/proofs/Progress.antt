@@ -5,6 +5,7 @@ use Rattle.access.specs.declared.accesses.Access.{Access}
 use Rattle.stages.specs.Stages.{World}
 use Rattle.translator.specs.declared.fences.Fence.{Fence}
 use Rattle.translator.specs.declared.replies.Reply.{Reply}
+use Rattle.translator.specs.declared.translators.Translator.{Ghosts}
 use Rattle.calls.specs.declared.Call.{Call}
 use Rattle.calls.specs.declared.Answer.{Answer}
 use Rattle.history.specs.Moments.{Moment, start}
@@ -50,7 +51,7 @@ pub words_of : (ws : List ℕ) (m : Machine) → (moment_of ws m).world.words �
 words_of ws (AtHost side) = refl
 words_of ws (AtGuest side) = refl
 
-module _ {S : Type 0} (answers : S → World → Access → Reply → S → Type 0) (forgets : S → Fence → S → Type 0) (clears : S → S → Type 0) where
+module _ {S : Type 0} (T : Ghosts S) where
   -- from the moment m and the translator u, `count` lines are done and `rest` is the text of the others
   pub record Progress (m : Moment) (u : S) (lines : List (List ℕ)) (before rest : List ℕ) (count end : ℕ) (n : Moment) (t : S) (after : List ℕ) : Type 0 where
     pub done : List (List ℕ)
@@ -58,15 +59,15 @@ module _ {S : Type 0} (answers : S → World → Access → Reply → S → Type
     pub given : List Answer
     pub split : lines ≡ done ++ lines_of rest
     pub reads : ReadLines done calls
-    pub ran : Ran answers forgets clears m u calls given n t
+    pub ran : Ran T m u calls given n t
     pub wrote : Wrote before 0 (report_text given) after end
     pub lined : length done ≡ count
     pub answered : length given ≡ count
     pub short : end ≤ 128 * count
 
-module _ {S : Type 0} {answers : S → World → Access → Reply → S → Type 0} {forgets : S → Fence → S → Type 0} {clears : S → S → Type 0} where
+module _ {S : Type 0} {T : Ghosts S} where
   -- nothing is played
-  pub progress_none : (m : Moment) (u : S) (text before : List ℕ) → Progress answers forgets clears m u (lines_of text) before text 0 0 m u before
+  pub progress_none : (m : Moment) (u : S) (text before : List ℕ) → Progress T m u (lines_of text) before text 0 0 m u before
   unfolding ReadLines lines_from
   progress_none m u text before = record {
     done = [];
@@ -74,7 +75,7 @@ module _ {S : Type 0} {answers : S → World → Access → Reply → S → Type
     given = [];
     split = refl;
     reads = tt;
-    ran = ran_none answers forgets clears m u;
+    ran = ran_none T m u;
     wrote = wrote_none before 0;
     lined = refl;
     answered = refl;
@@ -82,7 +83,7 @@ module _ {S : Type 0} {answers : S → World → Access → Reply → S → Type
   }
 
   module _ {m : Moment} {u : S} {lines : List (List ℕ)} {before rest : List ℕ} {count end : ℕ} {n : Moment} {t : S} {after : List ℕ}
-      (p : Progress answers forgets clears m u lines before rest count end n t after) where
+      (p : Progress T m u lines before rest count end n t after) where
     -- another line is there: fewer than all lines are done, and a report of `size` bytes has room for its answer
     pub progress_room : (line : List ℕ) (ls : List (List ℕ)) → lines_of rest ≡ line ∷ ls → (size : ℕ) → 128 * length lines ≤ size
         → (count < length lines) × (end + 128 ≤ size)
@@ -95,15 +96,15 @@ module _ {S : Type 0} {answers : S → World → Access → Reply → S → Type
 
     -- one line more
     pub progress_more : (line rest' : List ℕ) (k : Moment) (v : S) (after' : List ℕ) (end' : ℕ)
-        → lines_of rest ≡ line ∷ lines_of rest' → PlayedLine answers forgets clears n t line (count + 1) after end k v after' end'
-        → Progress answers forgets clears m u lines before rest' (count + 1) end' k v after'
+        → lines_of rest ≡ line ∷ lines_of rest' → PlayedLine T n t line (count + 1) after end k v after' end'
+        → Progress T m u lines before rest' (count + 1) end' k v after'
     progress_more line rest' k v after' end' e q = record {
       done = p.done ++ line ∷ [];
       calls = p.calls ++ q.0 ∷ [];
       given = p.given ++ q.1 ∷ [];
       split = p.split ∙ ap (λ l. p.done ++ l) e ∙ sym (append_assoc p.done (line ∷ []) (lines_of rest'));
       reads = read_push p.done p.calls line q.0 p.reads q.2;
-      ran = ran_push answers forgets clears m u p.calls p.given n t q.0 q.1 k v p.ran q.3;
+      ran = ran_push T m u p.calls p.given n t q.0 q.1 k v p.ran q.3;
       wrote = subst (λ s. Wrote before 0 s after' end') (sym (lines_push 1 p.given q.1 (count + 1) (omega (arith, p.answered)))) (wrote_then p.wrote q.4.2);
       lined = length_push p.done line ∙ ap (λ i. i + 1) p.lined;
       answered = length_push p.given q.1 ∙ ap (λ i. i + 1) p.answered;
@@ -111,13 +112,13 @@ module _ {S : Type 0} {answers : S → World → Access → Reply → S → Type
     }
 
     -- no line is left
-    pub progress_all : RunsAgree answers forgets clears → (ws : List ℕ) (s : S) (vs : List ℕ)
-        → m ≡ start ws → clears s u → rest ≡ [] → n.world.words ≡ vs → PlayedLines answers forgets clears ws s lines before vs t after end
+    pub progress_all : RunsAgree T → (ws : List ℕ) (s : S) (vs : List ℕ)
+        → m ≡ start ws → T.clears s u → rest ≡ [] → n.world.words ≡ vs → PlayedLines T ws s lines before vs t after end
     unfolding lines_of
     progress_all agree ws s vs first fenced none words =
         let all : lines ≡ p.done = p.split ∙ ap (λ r. p.done ++ lines_of r) none ∙ append-nil p.done in
-        let ran = subst (λ k. Ran answers forgets clears k u p.calls p.given n t) first p.ran in
-        let played : Played answers forgets clears (start ws) s p.calls p.given n t = (u, fenced, ran) in
+        let ran = subst (λ k. Ran T k u p.calls p.given n t) first p.ran in
+        let played : Played T (start ws) s p.calls p.given n t = (u, fenced, ran) in
         let both = agree (start ws) s p.calls p.given n t played in
         record {
           calls = p.calls;

@@ -6,6 +6,7 @@ use Rattle.access.specs.declared.accesses.Access.{Access}
 use Rattle.stages.specs.Stages.{World}
 use Rattle.translator.specs.declared.fences.Fence.{Fence}
 use Rattle.translator.specs.declared.replies.Reply.{Reply}
+use Rattle.translator.specs.declared.translators.Translator.{Ghosts}
 use Rattle.calls.specs.declared.Call.{Call}
 use Rattle.calls.specs.declared.Answer.{Answer}
 use Rattle.history.specs.Moments.{Moment, start}
@@ -20,12 +21,13 @@ use Rattle.judging.specs.Traces.{call_lines, Fits, HasRoom}
 use Rattle.judging.specs.Judging.{Refuses}
 use Rattle.player.specs.Reports.{ReadLines, report_text}
 
-module _ {S : Type 0} (answers : S → World → Access → Reply → S → Type 0) (forgets : S → Fence → S → Type 0) (clears : S → S → Type 0) where
+-- T is what a translator says of its calls: what an access, a fence and a host fence do to it
+module _ {S : Type 0} (T : Ghosts S) where
   -- the n-th line is read as a call, the machine takes it from the moment m to the moment k, and the line of its answer is
   -- written at `at`, up to `end`
   abbrev pub PlayedLine : Moment → S → List ℕ → ℕ → List ℕ → ℕ → Moment → S → List ℕ → ℕ → Type 0
   PlayedLine m s line n before at k t after end =
-      (c : Call) × (x : Answer) × ReadsCall host_text guest_text line c × Step answers forgets clears m s c x k t
+      (c : Call) × (x : Answer) × ReadsCall host_text guest_text line c × Step T m s c x k t
       × PutsLine before at (answer_line n x) after (Some end)
 
   -- a machine is made over the words ws, and takes the calls that the lines say: it leaves the words vs, the translator t and
@@ -36,9 +38,9 @@ module _ {S : Type 0} (answers : S → World → Access → Reply → S → Type
     pub end : Moment
     pub reads : ReadLines lines calls
     -- the run is the translator's own steps in a row, to the end
-    pub played : Played answers forgets clears (start ws) s calls given end t
+    pub played : Played T (start ws) s calls given end t
     -- settled or not, each call is served as the plain machine does or from what was remembered
-    pub faithful : FaithfulRun answers forgets clears (start ws) s calls given end t
+    pub faithful : FaithfulRun T (start ws) s calls given end t
     -- if every access is settled, the answers and the end are the plain machine's
     pub agrees : AllSettled (plain_at (start ws) calls) calls → Agrees (start ws) calls given end
     pub words : end.world.words ≡ vs

@@ -33,7 +33,7 @@ impl Cursor {
     ) -> Cursor
         requires few { self.count ≤ 9999 }
         requires room { self.end + 128 ≤ length report.old }
-        ensures played { PlayedLine T.Translator.answers T.Translator.forgets T.Translator.clears (moment_of (M.Memory.words memory.old) self.machine) translator.old line.now (self.count + 1) report.old self.end (moment_of (M.Memory.words memory.new) result.machine) translator.new report.new result.end }
+        ensures played { PlayedLine T.Translator (moment_of (M.Memory.words memory.old) self.machine) translator.old line.now (self.count + 1) report.old self.end (moment_of (M.Memory.words memory.new) result.machine) translator.new report.new result.end }
         ensures counted { result.count ≡ self.count + 1 }
         ensures rest_kept { M.Memory.rest memory.new ≡ M.Memory.rest memory.old }
         ensures lenders_kept { M.Memory.lenders memory.new ≡ M.Memory.lenders memory.old }
@@ -60,7 +60,7 @@ fn play_lines<M: Memory, T: Translator>(
 ) -> usize
     requires few { length (lines_of calls.now) ≤ 9999 }
     requires room { 128 * length (lines_of calls.now) ≤ length report.old }
-    ensures played { PlayedLines T.Translator.answers T.Translator.forgets T.Translator.clears (M.Memory.words memory.old) translator.old (lines_of calls.now) report.old (M.Memory.words memory.new) translator.new report.new result }
+    ensures played { PlayedLines T.Translator (M.Memory.words memory.old) translator.old (lines_of calls.now) report.old (M.Memory.words memory.new) translator.new report.new result }
     ensures rest_kept { M.Memory.rest memory.new ≡ M.Memory.rest memory.old }
     ensures lenders_kept { M.Memory.lenders memory.new ≡ M.Memory.lenders memory.old }
 {
@@ -87,7 +87,7 @@ pub fn play<T: Translator>(
     trace: &[u8],
     report: &mut [u8],
 ) -> Result<usize, Refusal>
-    ensures { Plays T.Translator.answers T.Translator.forgets T.Translator.clears image.old translator.old trace.now report.old result image.new translator.new report.new }
+    ensures { Plays T.Translator image.old translator.old trace.now report.old result image.new translator.new report.new }
 {
     let calls = judge(image.len(), trace, report.len())?;
     let mut memory = Bytes { bytes: image };

@@ -64,7 +64,7 @@ impl GuestSide {
         translator: &mut T,
         target: Target,
     ) -> Result<u64, Fault>
-        ensures { Reached T.Translator.answers T.Translator.forgets T.Translator.clears (guest_moment (M.Memory.words memory.now) self.now.roots) translator.old (access_of Load target) 0 (word_or_fault result) (guest_moment (M.Memory.words memory.now) self.now.roots) translator.new }
+        ensures { Reached T.Translator (guest_moment (M.Memory.words memory.now) self.now.roots) translator.old (access_of Load target) 0 (word_or_fault result) (guest_moment (M.Memory.words memory.now) self.now.roots) translator.new }
     {
         let access = target.access(Kind::Load);
         match reach(memory, translator, self.roots, access) {
@@ -80,7 +80,7 @@ impl GuestSide {
         translator: &mut T,
         target: Target,
     ) -> Result<u64, Fault>
-        ensures { Reached T.Translator.answers T.Translator.forgets T.Translator.clears (guest_moment (M.Memory.words memory.now) self.now.roots) translator.old (access_of Fetch target) 0 (word_or_fault result) (guest_moment (M.Memory.words memory.now) self.now.roots) translator.new }
+        ensures { Reached T.Translator (guest_moment (M.Memory.words memory.now) self.now.roots) translator.old (access_of Fetch target) 0 (word_or_fault result) (guest_moment (M.Memory.words memory.now) self.now.roots) translator.new }
     {
         let access = target.access(Kind::Fetch);
         match reach(memory, translator, self.roots, access) {
@@ -97,7 +97,7 @@ impl GuestSide {
         target: Target,
         data: u64,
     ) -> Result<(), Fault>
-        ensures reached { Reached T.Translator.answers T.Translator.forgets T.Translator.clears (guest_moment (M.Memory.words memory.old) self.now.roots) translator.old (access_of Store target) «data» (done_or_fault result) (guest_moment (M.Memory.words memory.new) self.now.roots) translator.new }
+        ensures reached { Reached T.Translator (guest_moment (M.Memory.words memory.old) self.now.roots) translator.old (access_of Store target) «data» (done_or_fault result) (guest_moment (M.Memory.words memory.new) self.now.roots) translator.new }
         ensures rest_kept { M.Memory.rest memory.new ≡ M.Memory.rest memory.old }
         ensures lenders_kept { M.Memory.lenders memory.new ≡ M.Memory.lenders memory.old }
     {

@@ -27,7 +27,7 @@ returns g c =
     let ws = g.M.Memory.words c.args.memory.now in
     let rooted = c.in_ok-root.ensures ws in
     let agree =
-    runs_agree g.T.Translator.book g.T.Translator.answers g.T.Translator.forgets g.T.Translator.clears
+    runs_agree g.T.Translator
     g.met.T.Translator.answered g.met.T.Translator.fenced g.met.T.Translator.cleared in
     let run =
     runs_loads ws c.args.registers.guest c.args.registers.host c.new-host.result.roots c.root.new.self.roots c.enter-guest.result.roots

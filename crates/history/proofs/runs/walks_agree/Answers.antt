@@ -2,4 +2,4 @@ use Rattle.history.proofs.Theorem.{walks_agree}
 use Rattle.history.proofs.runs.walks_agree.Goals as goal
 
 pub returns : goal.returns
-returns g c = walks_agree g.T.Translator.answers g.T.Translator.forgets g.T.Translator.clears
+returns g c = walks_agree g.T.Translator

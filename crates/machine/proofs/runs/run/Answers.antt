@@ -15,7 +15,7 @@ use Rattle.machine.proofs.runs.run.Goals as goal
 pub loop-call-init : goal.loop-call-init
 loop-call-init g c =
     let m = c.in_ok-answers.ensures in
-    let none = ran_none g.T.Translator.answers g.T.Translator.forgets g.T.Translator.clears
+    let none = ran_none g.T.Translator
     (host_moment (g.M.Memory.words c.args.memory.now) c.new.result.roots) c.new.new.translator in
     (m.len, refl, refl, refl, simp m.items none)
 
@@ -25,7 +25,7 @@ loop-call-preserved g c =
     let p = c.push_reserved.ensures in
     let e = c.call-next.ensures in
     let below : c.loop-call.call-index < length c.args.calls.now = omega arith in
-    let r = ran_push g.T.Translator.answers g.T.Translator.forgets g.T.Translator.clears
+    let r = ran_push g.T.Translator
     (host_moment (g.M.Memory.words c.args.memory.now) c.new.result.roots) c.new.new.translator
     (take c.loop-call.call-index c.args.calls.now) (vec_items c.loop-call.answers)
     (moment_of (g.M.Memory.words c.loop-call.memory) c.loop-call.machine) c.loop-call.translator
@@ -48,10 +48,10 @@ returns g c =
     let end = moment_of (g.M.Memory.words c.loop-call.memory) c.loop-call.machine in
     let done : length cs ≤ c.loop-call.call-index = omega arith in
     let ran = simp (take_all c.loop-call.call-index cs done, c.new.ensures.made ws) at i.4 in
-    let played : Played g.T.Translator.answers g.T.Translator.forgets g.T.Translator.clears (start ws) c.args.translator.now cs xs end c.loop-call.translator =
+    let played : Played g.T.Translator (start ws) c.args.translator.now cs xs end c.loop-call.translator =
     (c.new.new.translator, c.new.ensures.fenced, ran) in
-    let both : FaithfulRun g.T.Translator.answers g.T.Translator.forgets g.T.Translator.clears (start ws) c.args.translator.now cs xs end c.loop-call.translator × (AllSettled (plain_at (start ws) cs) cs → Agrees (start ws) cs xs end) =
-    runs_agree g.T.Translator.book g.T.Translator.answers g.T.Translator.forgets g.T.Translator.clears
+    let both : FaithfulRun g.T.Translator (start ws) c.args.translator.now cs xs end c.loop-call.translator × (AllSettled (plain_at (start ws) cs) cs → Agrees (start ws) cs xs end) =
+    runs_agree g.T.Translator
     g.met.T.Translator.answered g.met.T.Translator.fenced g.met.T.Translator.cleared
     (start ws) c.args.translator.now cs xs end c.loop-call.translator played in
     record { played = played; agrees = both.1; faithful = both.0; unchanged = tt; rest_kept = i.2; lenders_kept = i.3 }

@@ -9,7 +9,7 @@ invariant-loop-call g l =
     (vec_capacity l.answers ≡ vec_capacity l.initial.answers) ×
     (g.M.Memory.rest l.memory ≡ g.M.Memory.rest l.initial.memory) ×
     (g.M.Memory.lenders l.memory ≡ g.M.Memory.lenders l.initial.memory) ×
-    Ran g.T.Translator.answers g.T.Translator.forgets g.T.Translator.clears
+    Ran g.T.Translator
     (moment_of (g.M.Memory.words l.initial.memory) l.initial.machine) l.initial.translator
     (take l.call-index l.calls) (vec_items l.answers)
     (moment_of (g.M.Memory.words l.memory) l.machine) l.translator

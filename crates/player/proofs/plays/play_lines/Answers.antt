@@ -34,7 +34,7 @@ returns g c =
     let ws = g.M.Memory.words c.args.memory.now in
     let vs = g.M.Memory.words c.loop-line.memory in
     let agree =
-    runs_agree g.T.Translator.book g.T.Translator.answers g.T.Translator.forgets g.T.Translator.clears
+    runs_agree g.T.Translator
     g.met.T.Translator.answered g.met.T.Translator.fenced g.met.T.Translator.cleared in
     record {
       played = progress_all i.2 agree ws c.args.translator.now vs (c.new.ensures.made ws) c.new.ensures.fenced c.in_default.ensures (words_of vs c.loop-line.cursor.machine);

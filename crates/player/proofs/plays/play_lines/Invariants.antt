@@ -8,7 +8,7 @@ abbrev pub invariant-loop-line : goal.invariant-loop-line
 invariant-loop-line g l =
     (g.M.Memory.rest l.memory ≡ g.M.Memory.rest l.initial.memory) ×
     (g.M.Memory.lenders l.memory ≡ g.M.Memory.lenders l.initial.memory) ×
-    Progress g.T.Translator.answers g.T.Translator.forgets g.T.Translator.clears
+    Progress g.T.Translator
     (moment_of (g.M.Memory.words l.initial.memory) l.initial.cursor.machine) l.initial.translator (lines_of l.initial.rest) l.initial.report
     l.rest l.cursor.count l.cursor.end
     (moment_of (g.M.Memory.words l.memory) l.cursor.machine) l.translator l.report
