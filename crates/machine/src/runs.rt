@@ -1,5 +1,6 @@
 //! Lists of calls, over any memory and any translator.
 ghost use Rattle.std.specs.Prelude.{◌≡◌, ℕ, IfOk, OnErr};
+ghost use Rattle.memory.specs.Keeping.{Keeps};
 ghost use Rattle.history.specs.Moments.{start};
 ghost use Rattle.history.specs.Settled.{plain_at, AllSettled};
 ghost use Rattle.history.specs.Runs.{Played};
@@ -36,8 +37,7 @@ pub fn run<M: Memory, T: Translator>(
     ensures agrees { AllSettled (plain_at (start (M.Memory.words memory.old)) calls.now) calls.now → IfOk result (λ e. Agrees (start (M.Memory.words memory.old)) calls.now e.answers.items (moment_of (M.Memory.words memory.new) e.machine)) }
     ensures faithful { IfOk result (λ e. FaithfulRun T.Translator (start (M.Memory.words memory.old)) translator.old calls.now e.answers.items (moment_of (M.Memory.words memory.new) e.machine) translator.new) }
     ensures unchanged { OnErr result ((M.Memory.words memory.new ≡ M.Memory.words memory.old) × (translator.new ≡ translator.old)) }
-    ensures rest_kept { M.Memory.rest memory.new ≡ M.Memory.rest memory.old }
-    ensures lenders_kept { M.Memory.lenders memory.new ≡ M.Memory.lenders memory.old }
+    ensures kept { Keeps M.Memory memory.old memory.new }
 {
     let mut answers = Vec::with_capacity(heap, calls.len())?;
     let mut machine = Machine::AtHost(HostSide::new(translator));
@@ -57,8 +57,7 @@ pub fn run_nested<M: Memory>(
 ) -> Result<Ended, AllocError>
     ensures agrees { IfOk result (λ e. Agrees (start (M.Memory.words memory.old)) calls.now e.answers.items (moment_of (M.Memory.words memory.new) e.machine)) }
     ensures unchanged { OnErr result (M.Memory.words memory.new ≡ M.Memory.words memory.old) }
-    ensures rest_kept { M.Memory.rest memory.new ≡ M.Memory.rest memory.old }
-    ensures lenders_kept { M.Memory.lenders memory.new ≡ M.Memory.lenders memory.old }
+    ensures kept { Keeps M.Memory memory.old memory.new }
 {
     let mut nested = Nested;
     run(heap, memory, &mut nested, calls)

@@ -1,5 +1,6 @@
 //! One call of a machine, whichever side it is for.
 ghost use Rattle.std.specs.Prelude.{◌≡◌, ℕ};
+ghost use Rattle.memory.specs.Keeping.{Keeps};
 ghost use Rattle.calls.specs.declared.Call.TheVariants.{Host, Guest};
 ghost use Rattle.history.specs.Asks.{host_asks, guest_asks};
 ghost use Rattle.history.specs.Runs.{Step, StepBy};
@@ -25,8 +26,7 @@ fn host_step<M: Memory, T: Translator>(
     call: HostCall,
 ) -> (Machine, Answer)
     ensures stepped { StepBy T.Translator (host_asks call) (host_moment (M.Memory.words memory.old) side.roots) translator.old (Host call) result.1 (moment_of (M.Memory.words memory.new) result.0) translator.new }
-    ensures rest_kept { M.Memory.rest memory.new ≡ M.Memory.rest memory.old }
-    ensures lenders_kept { M.Memory.lenders memory.new ≡ M.Memory.lenders memory.old }
+    ensures kept { Keeps M.Memory memory.old memory.new }
 {
     let answer = match call {
         HostCall::Load { address } => side.load(memory, address).into(),
@@ -49,8 +49,7 @@ fn guest_step<M: Memory, T: Translator>(
     call: GuestCall,
 ) -> (Machine, Answer)
     ensures stepped { StepBy T.Translator (guest_asks call) (guest_moment (M.Memory.words memory.old) side.roots) translator.old (Guest call) result.1 (moment_of (M.Memory.words memory.new) result.0) translator.new }
-    ensures rest_kept { M.Memory.rest memory.new ≡ M.Memory.rest memory.old }
-    ensures lenders_kept { M.Memory.lenders memory.new ≡ M.Memory.lenders memory.old }
+    ensures kept { Keeps M.Memory memory.old memory.new }
 {
     let answer = match call {
         GuestCall::Load { target } => side.load(memory, translator, target).into(),
@@ -72,8 +71,7 @@ impl Machine {
         call: Call,
     ) -> (Machine, Answer)
         ensures stepped { Step T.Translator (moment_of (M.Memory.words memory.old) self) translator.old call result.1 (moment_of (M.Memory.words memory.new) result.0) translator.new }
-        ensures rest_kept { M.Memory.rest memory.new ≡ M.Memory.rest memory.old }
-        ensures lenders_kept { M.Memory.lenders memory.new ≡ M.Memory.lenders memory.old }
+        ensures kept { Keeps M.Memory memory.old memory.new }
     {
         match self {
             Machine::AtHost(side) => match call {

@@ -1,3 +1,4 @@
 -- The definitions that the contracts of memories cite.
 pub mod Words
 pub mod Bytes
+pub mod Keeping

@@ -1,5 +1,6 @@
 //! Playing a trace over an image.
 ghost use Rattle.std.specs.Prelude.{◌≡◌, ◌+◌, ◌*◌, ◌≤◌, length};
+ghost use Rattle.memory.specs.Keeping.{Keeps};
 ghost use Rattle.machine.specs.Machines.{moment_of};
 ghost use Rattle.trace.specs.Lines.{lines_of};
 ghost use Rattle.player.specs.Plays.{PlayedLine, PlayedLines, Plays};
@@ -35,8 +36,7 @@ impl Cursor {
         requires room { self.end + 128 ≤ length report.old }
         ensures played { PlayedLine T.Translator (moment_of (M.Memory.words memory.old) self.machine) translator.old line.now (self.count + 1) report.old self.end (moment_of (M.Memory.words memory.new) result.machine) translator.new report.new result.end }
         ensures counted { result.count ≡ self.count + 1 }
-        ensures rest_kept { M.Memory.rest memory.new ≡ M.Memory.rest memory.old }
-        ensures lenders_kept { M.Memory.lenders memory.new ≡ M.Memory.lenders memory.old }
+        ensures kept { Keeps M.Memory memory.old memory.new }
     {
         let (machine, answer) = self.machine.call(memory, translator, read_call(line));
         let count = self.count + 1;
@@ -61,8 +61,7 @@ fn play_lines<M: Memory, T: Translator>(
     requires few { length (lines_of calls.now) ≤ 9999 }
     requires room { 128 * length (lines_of calls.now) ≤ length report.old }
     ensures played { PlayedLines T.Translator (M.Memory.words memory.old) translator.old (lines_of calls.now) report.old (M.Memory.words memory.new) translator.new report.new result }
-    ensures rest_kept { M.Memory.rest memory.new ≡ M.Memory.rest memory.old }
-    ensures lenders_kept { M.Memory.lenders memory.new ≡ M.Memory.lenders memory.old }
+    ensures kept { Keeps M.Memory memory.old memory.new }
 {
     let mut cursor = Cursor {
         machine: Machine::AtHost(HostSide::new(translator)),

@@ -1,5 +1,6 @@
 //! The calls of the guest side. Each load, store and fetch is one access of the translator.
-ghost use Rattle.std.specs.Prelude.{◌≡◌, ℕ, List, slice_index};
+ghost use Rattle.std.specs.Prelude.{◌≡◌, ◌≢◌, ℕ, List, slice_index};
+ghost use Rattle.memory.specs.Keeping.{Keeps};
 ghost use Rattle.access.specs.declared.accesses.Kind.TheVariants.{Load, Store, Fetch};
 ghost use Rattle.stages.specs.Stages.{world_of};
 ghost use Rattle.translator.specs.declared.replies.Reply.{Reply};
@@ -18,6 +19,7 @@ use fault::Fault;
 use memory::Memory;
 use refusal::Refusal;
 use registers::{GuestRoot, Roots};
+use stages::World;
 use translator::{Fence, Translator};
 
 // The index of the word that an access goes to in a frame.
@@ -43,20 +45,32 @@ fn reach<M: Memory, T: Translator>(
 ) -> Result<u16, Fault>
     ensures { (r : Reply) × T.Translator.answers translator.old (world_of (M.Memory.words memory.now) roots) access r translator.new × (result ≡ r.outcome) }
 {
-    translator.access(memory, roots, access).outcome
+    let world = World::new(memory, roots);
+    translator.access(&world, access).outcome
 }
 
 // Whether the ASID of a fence is all, or at most 15.
 fn is_fence_asid(asid: Option<u16>) -> bool
     ensures { result ≡ is_fence_asid asid }
 {
-    match asid {
-        Some(asid) => asid <= 15,
-        None => true,
-    }
+    asid.is_none_or(|asid| asid <= 15)
 }
 
 impl GuestSide {
+    // The word that an access reads, or the whole fault.
+    fn word<M: Memory, T: Translator>(
+        &self,
+        memory: &M,
+        translator: &mut T,
+        access: Access,
+    ) -> Result<u64, Fault>
+        requires { access.kind ≢ Store }
+        ensures { Reached T.Translator (guest_moment (M.Memory.words memory.now) self.now.roots) translator.old access 0 (word_or_fault result) (guest_moment (M.Memory.words memory.now) self.now.roots) translator.new }
+    {
+        let frame = reach(memory, translator, self.roots, access)?;
+        Ok(word_at(memory, access, frame))
+    }
+
     /// The word that the guest loads, or the whole fault.
     pub fn load<M: Memory, T: Translator>(
         &self,
@@ -66,11 +80,7 @@ impl GuestSide {
     ) -> Result<u64, Fault>
         ensures { Reached T.Translator (guest_moment (M.Memory.words memory.now) self.now.roots) translator.old (access_of Load target) 0 (word_or_fault result) (guest_moment (M.Memory.words memory.now) self.now.roots) translator.new }
     {
-        let access = target.access(Kind::Load);
-        match reach(memory, translator, self.roots, access) {
-            Ok(frame) => Ok(word_at(memory, access, frame)),
-            Err(fault) => Err(fault),
-        }
+        self.word(memory, translator, target.access(Kind::Load))
     }
 
     /// The word that the guest fetches, or the whole fault.
@@ -82,11 +92,7 @@ impl GuestSide {
     ) -> Result<u64, Fault>
         ensures { Reached T.Translator (guest_moment (M.Memory.words memory.now) self.now.roots) translator.old (access_of Fetch target) 0 (word_or_fault result) (guest_moment (M.Memory.words memory.now) self.now.roots) translator.new }
     {
-        let access = target.access(Kind::Fetch);
-        match reach(memory, translator, self.roots, access) {
-            Ok(frame) => Ok(word_at(memory, access, frame)),
-            Err(fault) => Err(fault),
-        }
+        self.word(memory, translator, target.access(Kind::Fetch))
     }
 
     /// Stores a word, or answers the whole fault and changes no word.
@@ -98,17 +104,12 @@ impl GuestSide {
         data: u64,
     ) -> Result<(), Fault>
         ensures reached { Reached T.Translator (guest_moment (M.Memory.words memory.old) self.now.roots) translator.old (access_of Store target) «data» (done_or_fault result) (guest_moment (M.Memory.words memory.new) self.now.roots) translator.new }
-        ensures rest_kept { M.Memory.rest memory.new ≡ M.Memory.rest memory.old }
-        ensures lenders_kept { M.Memory.lenders memory.new ≡ M.Memory.lenders memory.old }
+        ensures kept { Keeps M.Memory memory.old memory.new }
     {
         let access = target.access(Kind::Store);
-        match reach(memory, translator, self.roots, access) {
-            Ok(frame) => {
-                let _ = memory.write(place(access, frame), data);
-                Ok(())
-            }
-            Err(fault) => Err(fault),
-        }
+        let frame = reach(memory, translator, self.roots, access)?;
+        let _ = memory.write(place(access, frame), data);
+        Ok(())
     }
 
     /// Forgets what the fence covers. A refused fence changes nothing.
@@ -126,11 +127,7 @@ impl GuestSide {
     pub fn root(&mut self, register: u64) -> Result<(), Refusal>
         ensures { (ws : List ℕ) → on_guest (world_of ws self.old.roots) (guest_call.Root register) ≡ (done_or_refusal result, guest_moment ws self.new.roots) }
     {
-        let guest = GuestRoot::decode(register)?;
-        self.roots = Roots {
-            guest,
-            host: self.roots.host,
-        };
+        self.roots.guest = GuestRoot::try_from(register)?;
         Ok(())
     }
 

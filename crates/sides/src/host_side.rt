@@ -1,5 +1,7 @@
 //! The calls of the host side.
-ghost use Rattle.std.specs.Prelude.{◌≡◌, ℕ, List};
+ghost use Rattle.std.specs.Prelude.{◌≡◌, ℕ, ◌/◌, ◌%◌, cond, ◌==◌, List, Ok, Err};
+ghost use Rattle.memory.specs.Keeping.{Keeps};
+ghost use Rattle.refusal.specs.declared.Refusal.TheVariants.{HostAddress};
 ghost use Rattle.calls.specs.declared.HostCall.TheVariants as host_call;
 ghost use Rattle.stages.specs.Stages.{world_of};
 ghost use Rattle.history.specs.Moments.{start};
@@ -12,6 +14,17 @@ use memory::Memory;
 use refusal::Refusal;
 use registers::{HostRoot, Roots};
 use translator::Translator;
+
+// The index of the word at a host address, which has to be a multiple of 8.
+fn index(address: u64) -> Result<u64, Refusal>
+    ensures { result ≡ cond (address % 8 == 0) (Ok (address / 8)) (Err HostAddress) }
+{
+    if address % 8 == 0 {
+        Ok(address / 8)
+    } else {
+        Err(Refusal::HostAddress)
+    }
+}
 
 impl HostSide {
     /// Makes a machine: both roots 0, at the host side, after one host fence.
@@ -29,39 +42,26 @@ impl HostSide {
     pub fn load<M: Memory>(&self, memory: &M, address: u64) -> Result<u64, Refusal>
         ensures { on_host (world_of (M.Memory.words memory.now) self.now.roots) (host_call.Load address) ≡ (word_or_refusal result, host_moment (M.Memory.words memory.now) self.now.roots) }
     {
-        if address % 8 != 0 {
-            return Err(Refusal::HostAddress);
-        }
-        match memory.read(address / 8) {
-            Ok(word) => Ok(word),
-            Err(_) => Err(Refusal::HostAddress),
-        }
+        memory
+            .read(index(address)?)
+            .map_err(|_| Refusal::HostAddress)
     }
 
     /// Replaces the word at a host address. A refused store changes nothing.
     pub fn store<M: Memory>(&self, memory: &mut M, address: u64, data: u64) -> Result<(), Refusal>
         ensures stored { on_host (world_of (M.Memory.words memory.old) self.now.roots) (host_call.Store address «data») ≡ (done_or_refusal result, host_moment (M.Memory.words memory.new) self.now.roots) }
-        ensures rest_kept { M.Memory.rest memory.new ≡ M.Memory.rest memory.old }
-        ensures lenders_kept { M.Memory.lenders memory.new ≡ M.Memory.lenders memory.old }
+        ensures kept { Keeps M.Memory memory.old memory.new }
     {
-        if address % 8 != 0 {
-            return Err(Refusal::HostAddress);
-        }
-        match memory.write(address / 8, data) {
-            Ok(()) => Ok(()),
-            Err(_) => Err(Refusal::HostAddress),
-        }
+        memory
+            .write(index(address)?, data)
+            .map_err(|_| Refusal::HostAddress)
     }
 
     /// Writes the host root register. A refused write changes nothing.
     pub fn root(&mut self, register: u64) -> Result<(), Refusal>
         ensures { (ws : List ℕ) → on_host (world_of ws self.old.roots) (host_call.Root register) ≡ (done_or_refusal result, host_moment ws self.new.roots) }
     {
-        let host = HostRoot::decode(register)?;
-        self.roots = Roots {
-            guest: self.roots.guest,
-            host,
-        };
+        self.roots.host = HostRoot::try_from(register)?;
         Ok(())
     }
 

@@ -17,7 +17,7 @@ loop-call-init g c =
     let m = c.in_ok-answers.ensures in
     let none = ran_none g.T.Translator
     (host_moment (g.M.Memory.words c.args.memory.now) c.new.result.roots) c.new.new.translator in
-    (m.len, refl, refl, refl, simp m.items none)
+    (m.len, refl, (refl, refl), simp m.items none)
 
 pub loop-call-preserved : goal.loop-call-preserved
 loop-call-preserved g c =
@@ -31,11 +31,10 @@ loop-call-preserved g c =
     (moment_of (g.M.Memory.words c.loop-call.memory) c.loop-call.machine) c.loop-call.translator
     (get_or c.args.calls.now c.loop-call.call-index (Host (Load 0))) c.call-next.result.1
     (moment_of (g.M.Memory.words c.call-next.new.memory) c.call-next.result.0) c.call-next.new.translator
-    i.4 e.stepped in (
+    i.3 e.stepped in (
       omega arith,
       cc,
-      e.rest_kept ∙ i.2,
-      e.lenders_kept ∙ i.3,
+      (e.kept.0 ∙ i.2.0, e.kept.1 ∙ i.2.1),
       simp (take_more c.args.calls.now c.loop-call.call-index (Host (Load 0)) below, p.items) r,
     )
 
@@ -47,11 +46,11 @@ returns g c =
     let ws = g.M.Memory.words c.args.memory.now in
     let end = moment_of (g.M.Memory.words c.loop-call.memory) c.loop-call.machine in
     let done : length cs ≤ c.loop-call.call-index = omega arith in
-    let ran = simp (take_all c.loop-call.call-index cs done, c.new.ensures.made ws) at i.4 in
+    let ran = simp (take_all c.loop-call.call-index cs done, c.new.ensures.made ws) at i.3 in
     let played : Played g.T.Translator (start ws) c.args.translator.now cs xs end c.loop-call.translator =
     (c.new.new.translator, c.new.ensures.fenced, ran) in
     let both : FaithfulRun g.T.Translator (start ws) c.args.translator.now cs xs end c.loop-call.translator × (AllSettled (plain_at (start ws) cs) cs → Agrees (start ws) cs xs end) =
     runs_agree g.T.Translator
     g.met.T.Translator.answered g.met.T.Translator.fenced g.met.T.Translator.cleared
     (start ws) c.args.translator.now cs xs end c.loop-call.translator played in
-    record { played = played; agrees = both.1; faithful = both.0; unchanged = tt; rest_kept = i.2; lenders_kept = i.3 }
+    record { played = played; agrees = both.1; faithful = both.0; unchanged = tt; kept = i.2 }

@@ -1,4 +1,5 @@
 use Rattle.std.proofs.Common.{◌≡◌, take, vec_items, vec_len, vec_capacity}
+use Rattle.memory.specs.Keeping.{Keeps}
 use Rattle.history.specs.Runs.{Ran}
 use Rattle.machine.specs.Machines.{moment_of}
 use Rattle.machine.proofs.runs.run.Given as goal
@@ -7,8 +8,7 @@ abbrev pub invariant-loop-call : goal.invariant-loop-call
 invariant-loop-call g l =
     (vec_len l.answers ≡ l.call-index) ×
     (vec_capacity l.answers ≡ vec_capacity l.initial.answers) ×
-    (g.M.Memory.rest l.memory ≡ g.M.Memory.rest l.initial.memory) ×
-    (g.M.Memory.lenders l.memory ≡ g.M.Memory.lenders l.initial.memory) ×
+    Keeps g.M.Memory l.initial.memory l.memory ×
     Ran g.T.Translator
     (moment_of (g.M.Memory.words l.initial.memory) l.initial.machine) l.initial.translator
     (take l.call-index l.calls) (vec_items l.answers)

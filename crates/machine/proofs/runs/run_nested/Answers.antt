@@ -7,8 +7,7 @@ use Rattle.machine.proofs.runs.run_nested.Goals as goal
 pub returns : goal.returns
 returns g c =
     record {
-      agrees = IfOk-weaker _ _ _ (λ e p. walks_agree _ _ _ (λ s t w a r h. ap (λ x. x.outcome) h ∙ walked_to_lem w a) _ _ _ _ _ _ p.2) c.run.ensures.played;
+      agrees = IfOk-weaker _ _ _ (λ e p. walks_agree _ (λ s t w a r h. ap (λ x. x.outcome) h ∙ walked_to_lem w a) _ _ _ _ _ _ p.2) c.run.ensures.played;
       unchanged = search rules;
-      rest_kept = c.run.ensures.rest_kept;
-      lenders_kept = c.run.ensures.lenders_kept;
+      kept = c.run.ensures.kept;
     }
