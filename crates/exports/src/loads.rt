@@ -70,7 +70,7 @@ fn sum_loads<M: Memory, T: Translator>(
     ensures plain { result ≡ plain_sum (M.Memory.words memory.now) registers.guest registers.host addresses.now }
     ensures run { FromRun T.Translator translator.old (M.Memory.words memory.now) registers.guest registers.host addresses.now result }
 {
-    let _ = GuestRoot::decode(registers.guest)?;
+    let _ = GuestRoot::try_from(registers.guest)?;
     let mut host = HostSide::new(translator);
     host.root(registers.host)?;
     let mut guest = host.enter();

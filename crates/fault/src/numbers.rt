@@ -116,7 +116,10 @@ impl GuestFault {
         match self {
             GuestFault::Misaligned => guest_place(Stage::Alignment, None),
             GuestFault::NotCanonical => guest_place(Stage::Guest, None),
-            GuestFault::Walk(WalkFault::Stopped { level }) => guest_place(Stage::Guest, Some(level)),
+            GuestFault::Walk(WalkFault::Stopped { level }) => guest_place(
+                Stage::Guest,
+                Some(level),
+            ),
             GuestFault::Walk(WalkFault::Source { level, fault }) => host_place(Some(level), fault),
             GuestFault::Denied { level } => guest_place(Stage::Guest, Some(level)),
             GuestFault::Host(fault) => host_place(None, fault),

@@ -5,7 +5,7 @@ use anyhow::anyhow;
 use calls::Target;
 use memory::{Memory, Words};
 use registers::{GuestRoot, HostRoot, Roots};
-use stages::translate;
+use stages::World;
 
 /// The words of one frame.
 const FRAME: usize = 512;
@@ -52,10 +52,10 @@ fn zero_frames(address: u64) -> Question {
 }
 
 fn roots(guest: u64, host: u64) -> anyhow::Result<Roots> {
-    let Ok(guest) = GuestRoot::decode(guest) else {
+    let Ok(guest) = GuestRoot::try_from(guest) else {
         return Err(anyhow!("the guest root register breaks its layout"));
     };
-    let Ok(host) = HostRoot::decode(host) else {
+    let Ok(host) = HostRoot::try_from(host) else {
         return Err(anyhow!("the host root register breaks its layout"));
     };
     Ok(Roots { guest, host })
@@ -67,7 +67,7 @@ fn answer<M: Memory>(
     roots: Roots,
     target: Target,
 ) -> anyhow::Result<()> {
-    match translate(memory, roots, target.access(Kind::Load)) {
+    match World::new(memory, roots).translate(target.access(Kind::Load)) {
         Ok(to) => {
             let index = to.frame as u64 * 512 + to.word as u64;
             let held = memory.read(index).unwrap_or(0);

@@ -1,6 +1,6 @@
 //! Accesses that a pool answers, or learns from.
 ghost use Rattle.std.specs.Prelude.{◌≡◌, true, Some};
-ghost use Rattle.stages.specs.Stages.{is_canonical, world_of};
+ghost use Rattle.stages.specs.Stages.{is_canonical};
 ghost use Rattle.translator.specs.Walked.{walked_reply};
 ghost use Rattle.leaves.specs.Lookups.{hit};
 ghost use Rattle.shadow.specs.Steps.{learnt, reply_by, after_by};
@@ -10,7 +10,7 @@ use layout::{Asid, LeafEntry, VirtualPage};
 use leaves::{answering, has_some_right, leaf_entry};
 use memory::Memory;
 use pool::Pool;
-use registers::Roots;
+use stages::World;
 use translator::{Grant, Reply, walked};
 
 // Writes the leaf of a grant that a walk handed out, if it has some right.
@@ -35,22 +35,17 @@ fn learn(pool: &mut Pool, grant: Grant)
 }
 
 // Answers an access from the pool, or by the walk, from which the pool learns.
-pub(crate) fn access_pool<M: Memory>(
-    pool: &mut Pool,
-    memory: &M,
-    roots: Roots,
-    access: Access,
-) -> Reply
-    ensures reply { result ≡ reply_by (hit pool.old.words.items roots.guest.register access) (walked_reply (world_of (M.Memory.words memory.now) roots) access) }
-    ensures after { pool.new.words.items ≡ after_by pool.old.words.items (hit pool.old.words.items roots.guest.register access) (walked_reply (world_of (M.Memory.words memory.now) roots) access) }
+pub(crate) fn access_pool<M: Memory>(pool: &mut Pool, world: &World<'_, M>, access: Access) -> Reply
+    ensures reply { result ≡ reply_by (hit pool.old.words.items world.now.guest access) (walked_reply world.now access) }
+    ensures after { pool.new.words.items ≡ after_by pool.old.words.items (hit pool.old.words.items world.now.guest access) (walked_reply world.now access) }
 {
-    if let Some(grant) = answering(pool, roots.guest, access) {
+    if let Some(grant) = answering(pool, world.roots().guest, access) {
         return Reply {
             outcome: Ok(grant.frame),
             grant: Some(grant),
         };
     }
-    let reply = walked(memory, roots, access);
+    let reply = walked(world, access);
     if let Some(grant) = reply.grant {
         learn(pool, grant);
     }

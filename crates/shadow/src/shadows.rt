@@ -11,7 +11,7 @@ use access::Access;
 use leaves::fence_pool;
 use memory::Memory;
 use pool::Pool;
-use registers::Roots;
+use stages::World;
 use translator::{Fence, Reply, Translator, walked};
 
 /// Remembers grants as leaves of Sv39 tables in a pool that it owns; in a pool of fewer than four frames it remembers nothing.
@@ -61,10 +61,10 @@ impl Translator for Shadow {
 
     ghost cleared = { λ s t e. Lawful.clears s.store t.store e };
 
-    fn access<M: Memory>(&mut self, memory: &M, roots: Roots, access: Access) -> Reply {
+    fn access<M: Memory>(&mut self, world: &World<'_, M>, access: Access) -> Reply {
         match &mut self.store {
-            Store::Idle(_) => walked(memory, roots, access),
-            Store::Working(pool) => access_pool(pool, memory, roots, access),
+            Store::Idle(_) => walked(world, access),
+            Store::Working(pool) => access_pool(pool, world, access),
         }
     }
 

@@ -3,6 +3,7 @@ use access::{Access, Kind, Mode};
 use layout::check_pool;
 use memory::{Memory, Words};
 use registers::{GuestRoot, HostRoot, Roots};
+use stages::World;
 use shadow::Shadow;
 use std::alloc::Global;
 use std::test::Fail;
@@ -43,10 +44,10 @@ fn image(heap: Global) -> Result<Vec<u64>, Fail> {
 
 // Where a load of `address` under `asid` comes to.
 fn load(shadow: &mut Shadow, words: &mut Vec<u64>, asid: u64, address: u64) -> Option<u16> {
-    let Ok(guest) = GuestRoot::decode(8 << 60 | asid % 16 << 44 | 1) else {
+    let Ok(guest) = GuestRoot::try_from(8 << 60 | asid % 16 << 44 | 1) else {
         return None;
     };
-    let Ok(host) = HostRoot::decode(0) else {
+    let Ok(host) = HostRoot::try_from(0) else {
         return None;
     };
     let memory = Words { words };
@@ -58,7 +59,7 @@ fn load(shadow: &mut Shadow, words: &mut Vec<u64>, asid: u64, address: u64) -> O
         address,
     };
     match shadow
-        .access(&memory, Roots { guest, host }, access)
+        .access(&World::new(&memory, Roots { guest, host }), access)
         .outcome
     {
         Ok(frame) => Some(frame),

@@ -3,6 +3,7 @@ use access::{Access, Kind, Mode};
 use layout::word;
 use memory::Words;
 use registers::{GuestRoot, HostRoot, Roots};
+use stages::World;
 use shadow::Shadow;
 use std::alloc::Global;
 use std::process::Abort;
@@ -67,10 +68,10 @@ pub fn load<T: Translator>(
     address: u64,
 ) -> u16 {
     let register = 8 << 60 | u64::from(asid) << 44 | 1;
-    let Ok(guest) = GuestRoot::decode(register) else {
+    let Ok(guest) = GuestRoot::try_from(register) else {
         return NOWHERE;
     };
-    let Ok(host) = HostRoot::decode(host) else {
+    let Ok(host) = HostRoot::try_from(host) else {
         return NOWHERE;
     };
     let access = Access {
@@ -82,7 +83,7 @@ pub fn load<T: Translator>(
     };
     let memory = Words { words };
     match translator
-        .access(&memory, Roots { guest, host }, access)
+        .access(&World::new(&memory, Roots { guest, host }), access)
         .outcome
     {
         Ok(frame) => frame,

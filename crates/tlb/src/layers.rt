@@ -7,7 +7,7 @@ ghost use Rattle.tlb.specs.Laws.{layer_answers, fence_keeps, none_left};
 use crate::tables::Table;
 use access::Access;
 use memory::Memory;
-use registers::Roots;
+use stages::World;
 use std::alloc::{AllocError, Global};
 use translator::{Fence, Reply, Translator};
 
@@ -54,14 +54,14 @@ impl<T: Translator> Translator for Tlb<T> {
 
     ghost cleared = { λ s t (e, l). rw (e, none_left (sets_of s)) (T.Translator.cleared s.below t.below l) };
 
-    fn access<M: Memory>(&mut self, memory: &M, roots: Roots, access: Access) -> Reply {
-        if let Some(grant) = self.table.find(roots, access) {
+    fn access<M: Memory>(&mut self, world: &World<'_, M>, access: Access) -> Reply {
+        if let Some(grant) = self.table.find(world.roots(), access) {
             return Reply {
                 outcome: Ok(grant.frame),
                 grant: Some(grant),
             };
         }
-        let reply = self.below.access(memory, roots, access);
+        let reply = self.below.access(world, access);
         self.table.store(reply.grant);
         reply
     }

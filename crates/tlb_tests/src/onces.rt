@@ -11,6 +11,7 @@ ghost use Rattle.tlb_tests.specs.OnceTranslatorLemmas.{by_answer};
 use access::Access;
 use memory::Memory;
 use registers::Roots;
+use stages::World;
 use translator::{Fence, Grant, Reply, Translator, walked};
 
 /// Remembers the grant of its last walk, until it has answered once or any fence comes.
@@ -53,15 +54,15 @@ impl Translator for Once {
 
     ghost cleared = { λ s t e. ap option_to_list e };
 
-    fn access<M: Memory>(&mut self, memory: &M, roots: Roots, access: Access) -> Reply {
-        if let Some(grant) = self.answering(roots, access) {
+    fn access<M: Memory>(&mut self, world: &World<'_, M>, access: Access) -> Reply {
+        if let Some(grant) = self.answering(world.roots(), access) {
             self.grant = None;
             return Reply {
                 outcome: Ok(grant.frame),
                 grant: Some(grant),
             };
         }
-        let reply = walked(memory, roots, access);
+        let reply = walked(world, access);
         self.grant = reply.grant;
         reply
     }

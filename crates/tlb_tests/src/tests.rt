@@ -3,6 +3,7 @@ use crate::onces::Once;
 use access::{Access, Kind, Mode};
 use memory::{Memory, Words};
 use registers::{GuestRoot, HostRoot, Roots};
+use stages::World;
 use std::alloc::Global;
 use std::process::Abort;
 use std::test::Fail;
@@ -24,8 +25,8 @@ const FETCH_LEAF: u64 = 0x49;
 // The roots under an ASID: the first table in the frame 0, the host Bare.
 fn roots(asid: u64) -> Option<Roots> {
     Some(Roots {
-        guest: GuestRoot::decode(8 << 60 | asid << 44).ok()?,
-        host: HostRoot::decode(0).ok()?,
+        guest: GuestRoot::try_from(8 << 60 | asid << 44).ok()?,
+        host: HostRoot::try_from(0).ok()?,
     })
 }
 
@@ -43,7 +44,7 @@ fn load<T: Translator, M: Memory>(
         mxr: true,
         address: u64::from(page) << 12,
     };
-    translator.access(memory, roots(asid)?, access).outcome.ok()
+    translator.access(&World::new(memory, roots(asid)?), access).outcome.ok()
 }
 
 // Loads from the pages in turn, by a table of one leaf.

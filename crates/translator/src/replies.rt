@@ -21,8 +21,7 @@ pub struct Reply {
 fn both_give(kind: Kind, guest: Leaf, host: Option<Leaf>) -> bool
     ensures { result ≡ both_give kind guest host }
 {
-    kind.is_given(guest.entry)
-        && host.is_none_or(|leaf| kind.host_allows(leaf.entry))
+    kind.is_given(guest.entry) && host.is_none_or(|leaf| kind.host_allows(leaf.entry))
 }
 
 // The fullest true grant of the page of a translated access: none where the guest is Bare.

@@ -5,7 +5,7 @@ use access::Access;
 use fault::Fault;
 use memory::{Memory, Words};
 use registers::{GuestRoot, HostRoot, Roots};
-use stages::{Translation, translate};
+use stages::{Translation, World};
 use std::alloc::Global;
 use std::process::Abort;
 use std::test::Fail;
@@ -88,7 +88,7 @@ fn try_access<M: Memory>(
     access: Access,
     expected: Answer,
 ) -> Result<(), Fail> {
-    let found = translate(memory, roots, access);
+    let found = World::new(memory, roots).translate(access);
     match expected {
         Answer::Granted(frame, word, guest, host) => check_grant(
             rt,
@@ -116,8 +116,8 @@ fn try_access<M: Memory>(
 // A memory of zero words, and the roots that two registers hold.
 fn begin(heap: Global, frames: u16, guest: u64, host: u64) -> Result<Bench, Fail> {
     let roots = Roots {
-        guest: GuestRoot::decode(guest)?,
-        host: HostRoot::decode(host)?,
+        guest: GuestRoot::try_from(guest)?,
+        host: HostRoot::try_from(host)?,
     };
     let words = vec![in heap; 0u64; 512 * frames as usize]?;
     Ok(Bench { words, roots })
@@ -212,7 +212,7 @@ fn levels(rt: HostRuntime) -> Result<(), Fail> {
 
 // Whether a register is the guest's root, or is refused as that.
 fn check_guest(rt: &impl Abort, register: u64, is_good: bool) -> Result<(), Fail> {
-    match GuestRoot::decode(register) {
+    match GuestRoot::try_from(register) {
         Ok(root) => {
             assert!(rt;
                 is_good && root.register == register,
@@ -232,7 +232,7 @@ fn check_guest(rt: &impl Abort, register: u64, is_good: bool) -> Result<(), Fail
 
 // Whether a register is the host's root, or is refused as that.
 fn check_host(rt: &impl Abort, register: u64, is_good: bool) -> Result<(), Fail> {
-    match HostRoot::decode(register) {
+    match HostRoot::try_from(register) {
         Ok(root) => {
             assert!(rt;
                 is_good && root.register == register,

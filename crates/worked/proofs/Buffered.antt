@@ -19,7 +19,8 @@ use Rattle.history.specs.Plain.{plain, landed}
 use Rattle.history.specs.Asks.{Ask, nothing, reach, forget, clear, asks}
 use Rattle.history.specs.Runs.{StepBy, Ran}
 use Rattle.worked.specs.Examples.{two_frames}
-use Rattle.worked.specs.Remembered.{editing, remembering, walks, answers, forgets, clears, Remembers}
+use Rattle.piles.specs.Piles.{nested_members, tlb_members}
+use Rattle.worked.specs.Remembered.{editing, remembering, Remembers}
 
 -- the reply and the sets after an access, by the grant that answers
 abbrev reply_by : Option Grant → World → Access → Reply
@@ -50,13 +51,13 @@ buffered m sets (c ∷ cs) = (next m sets c).0 ∷ buffered (next m sets c).1 (n
 
 -- an access
 layered_next : (o : Option Grant) (s : Tlb Nested) (w : World) (a : Access) (r : Reply) (t : Tlb Nested)
-    → MatchOption o (Miss walks s w a r t) (λ g. Hit g s r t) → (r ≡ reply_by o w a) × (sets_of t ≡ sets_by o w a (sets_of s))
+    → MatchOption o (Miss nested_members.answers s w a r t) (λ g. Hit g s r t) → (r ≡ reply_by o w a) × (sets_of t ≡ sets_by o w a (sets_of s))
 layered_next None s w a r t h = let e = h.below in let f = h.sets in (e, cc)
 layered_next (Some g) s w a r t h = (h.reply, h.sets)
 
 -- one call
 step_next : (q : Ask) (m : Moment) (s : Tlb Nested) (c : Call) (x : Answer) (n : Moment) (t : Tlb Nested)
-    → StepBy answers forgets clears q m s c x n t
+    → StepBy tlb_members q m s c x n t
     → (x ≡ (next_by q m (sets_of s) c).0) × (n ≡ (next_by q m (sets_of s) c).1) × (sets_of t ≡ (next_by q m (sets_of s) c).2)
 step_next nothing m s c x n t h = (h.0.0, h.0.1, cc)
 step_next (reach a new) m s c x n t (r, h, e, f) =
@@ -67,7 +68,7 @@ step_next clear m s c x n t h = (h.0.0, h.0.1, h.1.0)
 
 -- calls in a row
 ran_buffered : (m : Moment) (s : Tlb Nested) (cs : List Call) (xs : List Answer) (end : Moment) (t : Tlb Nested)
-    → Ran answers forgets clears m s cs xs end t → xs ≡ buffered m (sets_of s) cs
+    → Ran tlb_members m s cs xs end t → xs ≡ buffered m (sets_of s) cs
 unfolding Ran buffered
 ran_buffered m s [] [] end t h = refl
 ran_buffered m s [] (x ∷ xs) end t h = absurd h

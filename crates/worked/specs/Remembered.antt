@@ -2,17 +2,13 @@
 use Rattle.std.specs.Prelude.{◌≡◌, ℕ, List, [], ◌∷◌}
 use Rattle.table.specs.declared.walks.WalkFault.TheVariants.{Stopped}
 use Rattle.access.specs.declared.accesses.Kind.TheVariants.{Load}
-use Rattle.access.specs.declared.accesses.Access.{Access}
 use Rattle.fault.specs.declared.faults.GuestFault.TheVariants.{Walk}
 use Rattle.fault.specs.declared.faults.Fault.{Fault}
-use Rattle.stages.specs.Stages.{World}
-use Rattle.translator.specs.declared.fences.Fence.{Fence}
-use Rattle.translator.specs.declared.replies.Reply.{Reply}
 use Rattle.translator.specs.declared.nested.Nested.{Nested}
-use Rattle.translator.specs.Walked.{walked_reply}
 use Rattle.tlb.specs.declared.layers.Tlb.{Tlb}
-use Rattle.tlb.specs.Tables.{sets_after, everything, empty_sets}
-use Rattle.tlb.specs.Layer.{sets_of, Layered}
+use Rattle.tlb.specs.Tables.{everything, empty_sets}
+use Rattle.tlb.specs.Layer.{sets_of}
+use Rattle.piles.specs.Piles.{tlb_members}
 use Rattle.calls.specs.declared.GuestCall.TheVariants as guest_call
 use Rattle.calls.specs.declared.Call.{Call}
 use Rattle.calls.specs.declared.Call.TheVariants.{Guest}
@@ -34,22 +30,8 @@ stopped = record { kind = Load; address = 8; reason = Walk (Stopped 2) }
 abbrev pub remembering : List Answer
 remembering = Done ∷ Done ∷ Word 0 ∷ Done ∷ Word 0 ∷ Done ∷ Faulted stopped ∷ []
 
--- an access of the translator that remembers nothing, and one of a buffer over it
-abbrev pub walks : Nested → World → Access → Reply → Nested → Type 0
-walks s w a r t = r ≡ walked_reply w a
-
-abbrev pub answers : Tlb Nested → World → Access → Reply → Tlb Nested → Type 0
-answers s w a r t = Layered walks s w a r t
-
--- a guest fence and a host fence of the buffer: the translator below has nothing to forget
-abbrev pub forgets : Tlb Nested → Fence → Tlb Nested → Type 0
-forgets s f t = (sets_of t ≡ sets_after f (sets_of s)) × Unit {0}
-
-abbrev pub clears : Tlb Nested → Tlb Nested → Type 0
-clears s t = (sets_of t ≡ sets_after everything (sets_of s)) × Unit {0}
-
 -- every machine over an empty buffer, in a memory of these words, gives the calls these answers
 abbrev pub Remembers : List ℕ → Type 0
 Remembers ws =
     (s : Tlb Nested) (xs : List Answer) (end : Moment) (t : Tlb Nested) → sets_of s ≡ empty_sets
-    → Played answers forgets clears (start ws) s editing xs end t → xs ≡ remembering
+    → Played tlb_members (start ws) s editing xs end t → xs ≡ remembering

@@ -7,7 +7,7 @@ use Rattle.exports.proofs.loads.sum_loads.Goals as goal
 pub returns-in_err-root : goal.returns-in_err-root
 returns-in_err-root g c =
     let ws = g.M.Memory.words c.args.memory.now in
-    let guest = c.in_ok-decode.ensures.0 in
+    let guest = c.in_ok-try_from.ensures.0 in
     let host =
     host_refused ws c.new-host.result.roots c.root.new.self.roots c.args.registers.host c.in_err-root.field-0.0
     (c.in_err-root.ensures ws) in
@@ -16,7 +16,7 @@ returns-in_err-root g c =
 pub returns-in_err-root-2 : goal.returns-in_err-root-2
 returns-in_err-root-2 g c =
     let ws = g.M.Memory.words c.args.memory.now in
-    let guest = c.in_ok-decode.ensures.0 in
+    let guest = c.in_ok-try_from.ensures.0 in
     let again =
     guest_refused ws c.enter-guest.result.roots c.root-2.new.self.roots c.args.registers.guest c.in_err-root-2.field-0.0
     (c.in_err-root-2.ensures ws) in
@@ -38,6 +38,6 @@ returns g c =
     record {
       plain =
           sum_is_plain g.T.Translator agree c.args.translator.now ws c.args.registers.guest c.args.registers.host c.args.addresses.now
-          c.sum_words.result c.in_ok-decode.ensures.0 kept run;
+          c.sum_words.result c.in_ok-try_from.ensures.0 kept run;
       run = run;
     }

@@ -9,11 +9,11 @@ use Rattle.player.proofs.plays.play_lines.Goals as goal
 
 pub loop-line-init : goal.loop-line-init
 loop-line-init g c =
-    (refl, refl, progress_none (host_moment (g.M.Memory.words c.args.memory.now) c.new.result.roots) c.new.new.translator c.args.calls.now c.args.report.now)
+    ((refl, refl), progress_none (host_moment (g.M.Memory.words c.args.memory.now) c.new.result.roots) c.new.new.translator c.args.calls.now c.args.report.now)
 
 pub play_line-cursor-requires : goal.play_line-cursor-requires
 play_line-cursor-requires g c =
-    let room = progress_room c.loop-line.invariant.2 c.in-Some.line.now (lines_of c.in-Some.after.now) c.in-Some.ensures.0 (length c.args.report.now) c.requires.room in
+    let room = progress_room c.loop-line.invariant.1 c.in-Some.line.now (lines_of c.in-Some.after.now) c.in-Some.ensures.0 (length c.args.report.now) c.requires.room in
     record { few = omega (arith, room.0, c.requires.few); room = omega (arith, room.1, c.loop-line.auto.report) }
 
 pub loop-line-smaller : goal.loop-line-smaller
@@ -24,9 +24,9 @@ loop-line-preserved g c =
     let i = c.loop-line.invariant in
     let e = c.play_line-cursor.ensures in
     let more =
-    progress_more i.2 c.in-Some.line.now c.in-Some.after.now (moment_of (g.M.Memory.words c.play_line-cursor.new.memory) c.play_line-cursor.result.machine)
+    progress_more i.1 c.in-Some.line.now c.in-Some.after.now (moment_of (g.M.Memory.words c.play_line-cursor.new.memory) c.play_line-cursor.result.machine)
     c.play_line-cursor.new.translator c.play_line-cursor.new.report c.play_line-cursor.result.end c.in-Some.ensures.0 e.played in
-    (e.rest_kept ∙ i.0, e.lenders_kept ∙ i.1, simp e.counted more)
+    ((e.kept.0 ∙ i.0.0, e.kept.1 ∙ i.0.1), simp e.counted more)
 
 pub returns : goal.returns
 returns g c =
@@ -37,7 +37,6 @@ returns g c =
     runs_agree g.T.Translator
     g.met.T.Translator.answered g.met.T.Translator.fenced g.met.T.Translator.cleared in
     record {
-      played = progress_all i.2 agree ws c.args.translator.now vs (c.new.ensures.made ws) c.new.ensures.fenced c.in_default.ensures (words_of vs c.loop-line.cursor.machine);
-      rest_kept = i.0;
-      lenders_kept = i.1;
+      played = progress_all i.1 agree ws c.args.translator.now vs (c.new.ensures.made ws) c.new.ensures.fenced c.in_default.ensures (words_of vs c.loop-line.cursor.machine);
+      kept = i.0;
     }

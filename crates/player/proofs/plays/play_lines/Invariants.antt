@@ -1,4 +1,5 @@
-use Rattle.std.proofs.Common.{◌≡◌, length}
+use Rattle.std.proofs.Common.{length}
+use Rattle.memory.specs.Keeping.{Keeps}
 use Rattle.trace.specs.Lines.{lines_of}
 use Rattle.machine.specs.Machines.{moment_of}
 use Rattle.player.proofs.Progress.{Progress}
@@ -6,8 +7,7 @@ use Rattle.player.proofs.plays.play_lines.Given as goal
 
 abbrev pub invariant-loop-line : goal.invariant-loop-line
 invariant-loop-line g l =
-    (g.M.Memory.rest l.memory ≡ g.M.Memory.rest l.initial.memory) ×
-    (g.M.Memory.lenders l.memory ≡ g.M.Memory.lenders l.initial.memory) ×
+    Keeps g.M.Memory l.initial.memory l.memory ×
     Progress g.T.Translator
     (moment_of (g.M.Memory.words l.initial.memory) l.initial.cursor.machine) l.initial.translator (lines_of l.initial.rest) l.initial.report
     l.rest l.cursor.count l.cursor.end
