@@ -617,6 +617,8 @@ def registers():
 
 WIDTH = 60
 
+INDENT = "    "
+
 
 def number(value):
     return str(value) if value < 10 else hex(value)
@@ -630,15 +632,24 @@ def level_text(level):
     return "None" if level is None else f"Some({level})"
 
 
-def item(name, *parts):
-    """A line of a table, or several lines where it is long."""
+def tuple_text(parts, indent):
+    """A tuple on one line, or on several where it is long."""
     flat = ", ".join(parts)
     if len(flat) <= WIDTH:
-        return f"    {name}({flat}),\n"
-    return f"    {name}(\n" + "".join(f"        {part},\n" for part in parts) + "    ),\n"
+        return f"({flat})"
+    return "(\n" + "".join(f"{indent}{INDENT}{part},\n" for part in parts) + f"{indent})"
 
 
-def ask_name(kind, user, sum, mxr):
+def list_text(rows, indent):
+    """A list of tuples, each the texts of its parts: on one line, or a line or more for each tuple."""
+    flat = ", ".join(f"({', '.join(parts)})" for parts in rows)
+    if len(flat) <= WIDTH:
+        return f"[{flat}]"
+    inner = indent + INDENT
+    return "[\n" + "".join(f"{inner}{tuple_text(parts, inner)},\n" for parts in rows) + f"{indent}]"
+
+
+def way_name(kind, user, sum, mxr):
     return kind.upper() + ("_U" if user else "_S") + ("_SUM" if sum else "") + ("_MXR" if mxr else "")
 
 
@@ -651,59 +662,79 @@ def answer_text(answer):
     return f"Faulted({answer.cause}, {number(answer.guest_physical)}, {place})"
 
 
-def scenario_items(scenario):
-    roots = number(scenario.guest), number(scenario.host)
-    yield item("Deep", *roots) if scenario.is_deep else item("Zeros", str(scenario.frames), *roots)
-    for address, word in scenario.changes:
-        yield item("Put", number(address), number(word))
-    for access, answer in scenario.cases:
-        ask = ask_name(access.kind, access.user, access.sum, access.mxr)
-        yield item("Try", ask, number(access.address), answer_text(answer))
+def words_rows(changes):
+    return [(number(address), number(word)) for address, word in changes]
+
+
+def case_rows(cases):
+    for access, answer in cases:
+        way = way_name(access.kind, access.user, access.sum, access.mxr)
+        yield way, number(access.address), answer_text(answer)
+
+
+def scenario_text(scenario):
+    inner = 2 * INDENT
+    fields = (
+        ("name", f'"{scenario.name}"'),
+        ("start", "Deep" if scenario.is_deep else f"Zeros({scenario.frames})"),
+        ("guest", number(scenario.guest)),
+        ("host", number(scenario.host)),
+        ("words", "&" + list_text(words_rows(scenario.changes), inner)),
+        ("cases", "&" + list_text(list(case_rows(scenario.cases)), inner)),
+    )
+    body = "".join(f"{inner}{name}: {value},\n" for name, value in fields)
+    return f"{INDENT}Scenario {{\n{body}{INDENT}}},\n"
 
 
 def table_text(name, about, scenarios):
-    """The steps of some scenarios, with the number of the first step of each."""
-    text, count = "", 0
-    for scenario in scenarios:
-        items = list(scenario_items(scenario))
-        text += f"    // step {count}: {scenario.name}\n" + "".join(items)
-        count += len(items)
-    return f"\n/// {about}\npub static {name}: [Step; {count}] = [\n{text}];\n"
+    body = "".join(scenario_text(scenario) for scenario in scenarios)
+    return f"\n/// {about}\npub static {name}: [Scenario; {len(scenarios)}] = [\n{body}];\n"
 
 
-def ask_constants():
+def way_text(kind, user, sum, mxr):
+    fields = (
+        ("kind", f"Kind::{kind.capitalize()}"),
+        ("mode", "Mode::User" if user else "Mode::Supervisor"),
+        ("sum", truth(sum)),
+        ("mxr", truth(mxr)),
+        ("address", "0"),
+    )
+    body = "".join(f"{INDENT}{name}: {value},\n" for name, value in fields)
+    return f"const {way_name(kind, user, sum, mxr)}: Access = Access {{\n{body}}};\n"
+
+
+def way_constants():
     for kind in KINDS:
         for user in (False, True):
             for sum in (False, True):
                 for mxr in (False, True):
-                    mode = "User" if user else "Supervisor"
-                    parts = f"Kind::{kind.capitalize()}, Mode::{mode}, {truth(sum)}, {truth(mxr)}"
-                    yield f"const {ask_name(kind, user, sum, mxr)}: Ask = Ask({parts});\n"
+                    yield way_text(kind, user, sum, mxr)
 
 
 USES = (
-    "crate::steps::Answer::{Faulted, Global, Granted}",
-    "crate::steps::Step::{Deep, Put, Try, Zeros}",
-    "crate::steps::{Ask, Register, Step}",
-    "access::{Kind, Mode}",
+    "crate::scenarios::Answer::{Faulted, Global, Granted}",
+    "crate::scenarios::Holder::{Either, GuestOnly, Neither}",
+    "crate::scenarios::Start::{Deep, Zeros}",
+    "crate::scenarios::{Holder, Scenario}",
+    "access::{Access, Kind, Mode}",
 )
+
+# Whose root a register may be, by whether the guest and the host may have it.
+HOLDER = {(True, True): "Either", (True, False): "GuestOnly", (False, False): "Neither"}
 
 
 def file_text(tables, roots):
-    deep_lines = "".join(f"    ({number(address)}, {number(word)}),\n" for address, word in DEEP)
-    root_lines = "".join(
-        item("Register", number(register), truth(guest), truth(host)) for register, (guest, host) in roots
-    )
+    root_rows = [(number(register), HOLDER[holders]) for register, holders in roots]
     return "".join(
         (
             "//! The tables. Written by model/walk_cases.py: to change them, change that and run it.\n",
             *(f"use {path};\n" for path in USES),
-            "\n// The ways to ask for an access: kind, mode s or u, SUM, MXR.\n",
-            "\n".join(ask_constants()),
+            "\n// The ways to make an access: kind, mode, SUM and MXR. The address is that of the case.\n",
+            "\n".join(way_constants()),
             "\n/// The words of the deep memory that are not zero, each after its address.\n",
-            f"pub static DEEP: [(u64, u64); {len(DEEP)}] = [\n{deep_lines}];\n",
-            "\n/// Root registers, and who may have them.\n",
-            f"pub static REGISTERS: [Register; {len(roots)}] = [\n{root_lines}];\n",
+            f"pub static DEEP: [(u64, u64); {len(DEEP)}] = {list_text(words_rows(DEEP), '')};\n",
+            "\n/// Root registers, and whose root each may be.\n",
+            f"pub static REGISTERS: [(u64, Holder); {len(roots)}] = {list_text(root_rows, '')};\n",
             *(table_text(*table) for table in tables),
         )
     )
