@@ -1,15 +1,12 @@
 //! The worked examples of the two-stage walk: one load each.
 use crate::lines::Shown;
 use access::{Kind, Mode};
-use anyhow::anyhow;
+use anyhow::Context;
 use calls::Target;
-use memory::{Memory, Words};
+use memory::{FRAME_WORDS, Memory, Words};
 use registers::{GuestRoot, HostRoot, Roots};
 use stages::translate;
 use std::fmt;
-
-/// The words of one frame.
-const FRAME: usize = 512;
 
 /// One question: a load, at a memory of zero frames but for one word, and two root registers.
 #[derive(Clone, Copy)]
@@ -75,26 +72,27 @@ fn zero_frames(address: u64) -> Question {
 impl Question {
     fn roots(self) -> anyhow::Result<Roots> {
         Ok(Roots {
-            guest: GuestRoot::decode(self.guest).map_err(|_| anyhow!(
-                "the guest root register breaks its layout"
-            ))?,
-            host: HostRoot::decode(self.host).map_err(|_| anyhow!(
-                "the host root register breaks its layout"
-            ))?,
+            guest: GuestRoot::decode(self.guest)
+                .ok()
+                .context("the guest root register breaks its layout")?,
+            host: HostRoot::decode(self.host)
+                .ok()
+                .context("the host root register breaks its layout")?,
         })
     }
 
     /// Prints what the load asks, and what comes.
     fn ask(self, rt: &(impl Print + AllocGlobal)) -> anyhow::Result<()> {
-        let mut held = vec![in rt.alloc(); 0u64; self.frames.saturating_mul(FRAME)]?;
-        let mut memory = Words { words: &mut held };
+        let mut words = vec![in rt.alloc(); 0; self.frames.saturating_mul(FRAME_WORDS as usize)]?;
+        let mut memory = Words { words: &mut words };
         memory
             .write(self.index, self.word)
-            .map_err(|_| anyhow!("word {} lies outside", self.index))?;
+            .ok()
+            .context("the word lies outside the memory")?;
         println!(rt; "{self}")?;
         match translate(&memory, self.roots()?, self.target.access(Kind::Load)) {
             Ok(to) => {
-                let index = u64::from(to.frame) * 512 + u64::from(to.word);
+                let index = u64::from(to.frame) * FRAME_WORDS + u64::from(to.word);
                 let held = memory.read(index).unwrap_or(0);
                 println!(rt;
                     "  granted: frame={} word={} holding {held:016x}",
