@@ -28,7 +28,9 @@ impl Scenario {
                 ..*way
             };
             let found = translate(&memory, roots, access);
-            let asked = found.err().map_or(access.address, |fault| fault.address);
+            let asked = found
+                .err()
+                .map_or(access.address, |fault| fault.numbers().address);
             assert_eq!(rt; asked, access.address, "{name}: case {number}");
             let came = found.map_or_else(Answer::from, Answer::from);
             assert_eq!(rt; came, *expected, "{name}: case {number}");
