@@ -4,7 +4,7 @@ use crate::lists::Expected::{Done, Refused, Word};
 use crate::lists::*;
 use calls::Call;
 use machine::run;
-use memory::Words;
+use memory::{Memory, Words};
 use refusal::Refusal;
 use std::process::Abort;
 use std::test::Fail;
@@ -15,6 +15,18 @@ use translator::{Nested, Translator};
 const ASID_1: u64 = 0x8000_1000_0000_0001;
 
 const ASID_2_EMPTY: u64 = 0x8000_2000_0000_0007;
+
+// The words that are not zero, each after its index.
+const WORDS: [(u64, u64); 8] = [
+    (512, 0x801),
+    (1024, 0xc01),
+    (1536, 0x10c7),
+    (1537, 0x14cf),
+    (1538, 0x18e7),
+    (2049, 44),
+    (2561, 55),
+    (3073, 66),
+];
 
 // A load through the table with no entry.
 const NO_ENTRY: Expected = Expected::Fault {
@@ -29,17 +41,11 @@ fn check_run<T: Translator>(
     translator: &mut T,
     list: &[(Call, Expected)],
 ) -> Result<(), Fail> {
-    let mut words = vec![in rt.alloc(); 0u64; 4096]?;
-    assert!(rt; words.len() == 4096);
-    words[512] = 0x801;
-    words[1024] = 0xc01;
-    words[1536] = 0x10c7;
-    words[1537] = 0x14cf;
-    words[1538] = 0x18e7;
-    words[2049] = 44;
-    words[2561] = 55;
-    words[3073] = 66;
+    let mut words = vec![in rt.alloc(); 0; 4096]?;
     let mut memory = Words { words: &mut words };
+    for (index, word) in WORDS {
+        memory.write(index, word)?;
+    }
     let calls: Vec<Call> = list.iter().map(|(call, _)| *call).collect(rt.alloc())?;
     let ended = run(rt.alloc(), &mut memory, translator, &calls)?;
     assert_eq!(rt; ended.answers.len(), list.len());
