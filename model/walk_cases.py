@@ -1,4 +1,4 @@
-"""Builds the cases of crates/walk_cases, and writes crates/walk_cases/src/cases.rt.
+"""Builds the cases of crates/walk_cases, and writes its src/cases.rt and the files of src/cases.
 
     python3 model/walk_cases.py
 
@@ -612,7 +612,7 @@ def registers():
 
 
 # ---------------------------------------------------------------------------------------
-# The text of cases.rt, in the layout of the formatter: what is longer than 60 characters
+# The text of the files, in the layout of the formatter: what is longer than 60 characters
 # between its brackets goes to lines of its own.
 
 WIDTH = 60
@@ -687,8 +687,15 @@ def scenario_text(scenario):
 
 
 def table_text(name, about, scenarios):
+    """The file of a table."""
     body = "".join(scenario_text(scenario) for scenario in scenarios)
-    return f"\n/// {about}\npub static {name}: [Scenario; {len(scenarios)}] = [\n{body}];\n"
+    return "".join(
+        (
+            f"//! {about} {WRITTEN}\n",
+            *(f"use {path};\n" for path in TABLE_USES),
+            f"\npub static {name}: [Scenario; {len(scenarios)}] = [\n{body}];\n",
+        )
+    )
 
 
 def way_text(kind, user, sum, mxr):
@@ -711,31 +718,42 @@ def way_constants():
                     yield way_text(kind, user, sum, mxr)
 
 
+WRITTEN = "Written by model/walk_cases.py: to change it, change that and run it."
+
 USES = (
-    "crate::scenarios::Answer::{Faulted, Global, Granted}",
+    "crate::scenarios::Holder",
     "crate::scenarios::Holder::{Either, GuestOnly, Neither}",
-    "crate::scenarios::Start::{Deep, Zeros}",
-    "crate::scenarios::{Holder, Scenario}",
     "access::{Access, Kind, Mode}",
+)
+
+TABLE_USES = (
+    "crate::cases::*",
+    "crate::scenarios::Answer::*",
+    "crate::scenarios::Scenario",
+    "crate::scenarios::Start::*",
 )
 
 # Whose root a register may be, by whether the guest and the host may have it.
 HOLDER = {(True, True): "Either", (True, False): "GuestOnly", (False, False): "Neither"}
 
 
-def file_text(tables, roots):
+def file_text(names, roots):
+    """The file above the tables: what they share, and the root registers."""
     root_rows = [(number(register), HOLDER[holders]) for register, holders in roots]
+    modules = sorted(name.lower() for name in names)
     return "".join(
         (
-            "//! The tables. Written by model/walk_cases.py: to change them, change that and run it.\n",
+            f"//! The tables. {WRITTEN}\n",
+            *(f"mod {module};\n" for module in modules),
+            "\n",
             *(f"use {path};\n" for path in USES),
+            *(f"pub use {module}::{module.upper()};\n" for module in modules),
             "\n// The ways to make an access: kind, mode, SUM and MXR. The address is that of the case.\n",
             "\n".join(way_constants()),
             "\n/// The words of the deep memory that are not zero, each after its address.\n",
             f"pub static DEEP: [(u64, u64); {len(DEEP)}] = {list_text(words_rows(DEEP), '')};\n",
             "\n/// Root registers, and whose root each may be.\n",
             f"pub static REGISTERS: [(u64, Holder); {len(roots)}] = {list_text(root_rows, '')};\n",
-            *(table_text(*table) for table in tables),
         )
     )
 
@@ -763,8 +781,11 @@ def main():
         met = {(f.guest_level, f.host_level) for f in faults if f.stage == stage}
         assert met == {(guest, host) for guest in range(4) for host in range(4)}
     roots = registers()
-    target = pathlib.Path(__file__).resolve().parent.parent / "crates/walk_cases/src/cases.rt"
-    target.write_text(file_text(tables, roots))
+    target = pathlib.Path(__file__).resolve().parent.parent / "crates/walk_cases/src"
+    (target / "cases.rt").write_text(file_text([name for name, _, _ in tables], roots))
+    (target / "cases").mkdir(exist_ok=True)
+    for table in tables:
+        (target / "cases" / f"{table[0].lower()}.rt").write_text(table_text(*table))
     print(f"{len(scenarios)} scenarios, {len(answers)} accesses, {len(roots)} registers")
 
 

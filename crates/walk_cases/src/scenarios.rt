@@ -17,8 +17,8 @@ pub enum Start {
     Deep,
 }
 
-/// What an access comes to. The tables have hundreds, one to a line, of which names before their numbers would
-/// make seven lines each: so the numbers have no names.
+/// What an access comes to. The tables have hundreds of them, each on a line of its own. With a name before each number it
+/// would take seven lines, so the numbers have none.
 #[derive(Clone, Copy, PartialEq, Eq, Debug)]
 pub enum Answer {
     /// Frame and word, and the levels of the guest's and of the host's leaf: none where that stage is Bare.
