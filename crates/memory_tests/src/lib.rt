@@ -17,6 +17,7 @@ fn words_show_whole_frames(rt: HostRuntime) -> Result<(), Fail> {
     Ok(())
 }
 
+// One loop for words and bytes would need a bound on every loan of a slice, which is no plainer than two.
 #[test]
 fn bytes_show_whole_frames(rt: HostRuntime) -> Result<(), Fail> {
     for (count, frames) in [(4095, 0), (4096, 1), (4097, 1)] {
