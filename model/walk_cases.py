@@ -1,4 +1,4 @@
-"""Builds the cases of crates/walk_cases, and writes crates/walk_cases/src/cases.rt.
+"""Builds the cases of crates/walk_cases, and writes its src/cases.rt and the files of src/cases.
 
     python3 model/walk_cases.py
 
@@ -612,10 +612,12 @@ def registers():
 
 
 # ---------------------------------------------------------------------------------------
-# The text of cases.rt, in the layout of the formatter: what is longer than 60 characters
+# The text of the files, in the layout of the formatter: what is longer than 60 characters
 # between its brackets goes to lines of its own.
 
 WIDTH = 60
+
+INDENT = "    "
 
 
 def number(value):
@@ -630,15 +632,24 @@ def level_text(level):
     return "None" if level is None else f"Some({level})"
 
 
-def item(name, *parts):
-    """A line of a table, or several lines where it is long."""
+def tuple_text(parts, indent):
+    """A tuple on one line, or on several where it is long."""
     flat = ", ".join(parts)
     if len(flat) <= WIDTH:
-        return f"    {name}({flat}),\n"
-    return f"    {name}(\n" + "".join(f"        {part},\n" for part in parts) + "    ),\n"
+        return f"({flat})"
+    return "(\n" + "".join(f"{indent}{INDENT}{part},\n" for part in parts) + f"{indent})"
 
 
-def ask_name(kind, user, sum, mxr):
+def list_text(rows, indent):
+    """A list of tuples, each the texts of its parts: on one line, or a line or more for each tuple."""
+    flat = ", ".join(f"({', '.join(parts)})" for parts in rows)
+    if len(flat) <= WIDTH:
+        return f"[{flat}]"
+    inner = indent + INDENT
+    return "[\n" + "".join(f"{inner}{tuple_text(parts, inner)},\n" for parts in rows) + f"{indent}]"
+
+
+def way_name(kind, user, sum, mxr):
     return kind.upper() + ("_U" if user else "_S") + ("_SUM" if sum else "") + ("_MXR" if mxr else "")
 
 
@@ -651,60 +662,98 @@ def answer_text(answer):
     return f"Faulted({answer.cause}, {number(answer.guest_physical)}, {place})"
 
 
-def scenario_items(scenario):
-    roots = number(scenario.guest), number(scenario.host)
-    yield item("Deep", *roots) if scenario.is_deep else item("Zeros", str(scenario.frames), *roots)
-    for address, word in scenario.changes:
-        yield item("Put", number(address), number(word))
-    for access, answer in scenario.cases:
-        ask = ask_name(access.kind, access.user, access.sum, access.mxr)
-        yield item("Try", ask, number(access.address), answer_text(answer))
+def words_rows(changes):
+    return [(number(address), number(word)) for address, word in changes]
+
+
+def case_rows(cases):
+    for access, answer in cases:
+        way = way_name(access.kind, access.user, access.sum, access.mxr)
+        yield way, number(access.address), answer_text(answer)
+
+
+def scenario_text(scenario):
+    inner = 2 * INDENT
+    fields = (
+        ("name", f'"{scenario.name}"'),
+        ("start", "Deep" if scenario.is_deep else f"Zeros({scenario.frames})"),
+        ("guest", number(scenario.guest)),
+        ("host", number(scenario.host)),
+        ("words", "&" + list_text(words_rows(scenario.changes), inner)),
+        ("cases", "&" + list_text(list(case_rows(scenario.cases)), inner)),
+    )
+    body = "".join(f"{inner}{name}: {value},\n" for name, value in fields)
+    return f"{INDENT}Scenario {{\n{body}{INDENT}}},\n"
 
 
 def table_text(name, about, scenarios):
-    """The steps of some scenarios, with the number of the first step of each."""
-    text, count = "", 0
-    for scenario in scenarios:
-        items = list(scenario_items(scenario))
-        text += f"    // step {count}: {scenario.name}\n" + "".join(items)
-        count += len(items)
-    return f"\n/// {about}\npub static {name}: [Step; {count}] = [\n{text}];\n"
+    """The file of a table."""
+    body = "".join(scenario_text(scenario) for scenario in scenarios)
+    return "".join(
+        (
+            f"//! {about} {WRITTEN}\n",
+            *(f"use {path};\n" for path in TABLE_USES),
+            f"\npub static {name}: [Scenario; {len(scenarios)}] = [\n{body}];\n",
+        )
+    )
 
 
-def ask_constants():
+def way_text(kind, user, sum, mxr):
+    fields = (
+        ("kind", f"Kind::{kind.capitalize()}"),
+        ("mode", "Mode::User" if user else "Mode::Supervisor"),
+        ("sum", truth(sum)),
+        ("mxr", truth(mxr)),
+        ("address", "0"),
+    )
+    body = "".join(f"{INDENT}{name}: {value},\n" for name, value in fields)
+    return f"const {way_name(kind, user, sum, mxr)}: Access = Access {{\n{body}}};\n"
+
+
+def way_constants():
     for kind in KINDS:
         for user in (False, True):
             for sum in (False, True):
                 for mxr in (False, True):
-                    mode = "User" if user else "Supervisor"
-                    parts = f"Kind::{kind.capitalize()}, Mode::{mode}, {truth(sum)}, {truth(mxr)}"
-                    yield f"const {ask_name(kind, user, sum, mxr)}: Ask = Ask({parts});\n"
+                    yield way_text(kind, user, sum, mxr)
 
+
+WRITTEN = "Written by model/walk_cases.py: to change it, change that and run it."
 
 USES = (
-    "crate::steps::Answer::{Faulted, Global, Granted}",
-    "crate::steps::Step::{Deep, Put, Try, Zeros}",
-    "crate::steps::{Ask, Register, Step}",
-    "access::{Kind, Mode}",
+    "crate::scenarios::Holder",
+    "crate::scenarios::Holder::{Either, GuestOnly, Neither}",
+    "access::{Access, Kind, Mode}",
 )
 
+TABLE_USES = (
+    "crate::cases::*",
+    "crate::scenarios::Answer::*",
+    "crate::scenarios::Scenario",
+    "crate::scenarios::Start::*",
+)
 
-def file_text(tables, roots):
-    deep_lines = "".join(f"    ({number(address)}, {number(word)}),\n" for address, word in DEEP)
-    root_lines = "".join(
-        item("Register", number(register), truth(guest), truth(host)) for register, (guest, host) in roots
-    )
+# Whose root a register may be, by whether the guest and the host may have it.
+HOLDER = {(True, True): "Either", (True, False): "GuestOnly", (False, False): "Neither"}
+
+
+def file_text(names, roots):
+    """The file above the tables: what they share, and the root registers."""
+    root_rows = [(number(register), HOLDER[holders]) for register, holders in roots]
+    modules = sorted(name.lower() for name in names)
     return "".join(
         (
-            "//! The tables. Written by model/walk_cases.py: to change them, change that and run it.\n",
+            f"//! The tables. {WRITTEN}\n",
+            *(f"mod {module};\n" for module in modules),
+            "\n",
             *(f"use {path};\n" for path in USES),
-            "\n// The ways to ask for an access: kind, mode s or u, SUM, MXR.\n",
-            "\n".join(ask_constants()),
+            *(f"pub use {module}::{module.upper()};\n" for module in modules),
+            "\n// The ways to make an access: kind, mode, SUM and MXR. The address is that of the case.\n",
+            "\n".join(way_constants()),
             "\n/// The words of the deep memory that are not zero, each after its address.\n",
-            f"pub static DEEP: [(u64, u64); {len(DEEP)}] = [\n{deep_lines}];\n",
-            "\n/// Root registers, and who may have them.\n",
-            f"pub static REGISTERS: [Register; {len(roots)}] = [\n{root_lines}];\n",
-            *(table_text(*table) for table in tables),
+            f"pub static DEEP: [(u64, u64); {len(DEEP)}] = {list_text(words_rows(DEEP), '')};\n",
+            "\n/// Root registers, and whose root each may be.\n",
+            f"pub static REGISTERS: [(u64, Holder); {len(roots)}] = {list_text(root_rows, '')};\n",
         )
     )
 
@@ -732,8 +781,11 @@ def main():
         met = {(f.guest_level, f.host_level) for f in faults if f.stage == stage}
         assert met == {(guest, host) for guest in range(4) for host in range(4)}
     roots = registers()
-    target = pathlib.Path(__file__).resolve().parent.parent / "crates/walk_cases/src/cases.rt"
-    target.write_text(file_text(tables, roots))
+    target = pathlib.Path(__file__).resolve().parent.parent / "crates/walk_cases/src"
+    (target / "cases.rt").write_text(file_text([name for name, _, _ in tables], roots))
+    (target / "cases").mkdir(exist_ok=True)
+    for table in tables:
+        (target / "cases" / f"{table[0].lower()}.rt").write_text(table_text(*table))
     print(f"{len(scenarios)} scenarios, {len(answers)} accesses, {len(roots)} registers")
 
 

@@ -1,6 +1,7 @@
 //! The calls and the expected answers of the tests.
 use access::Mode;
 use calls::{Answer, Call, GuestCall, HostCall, Target};
+use refusal::Refusal;
 use translator::Fence;
 
 /// What a test expects of a call.
@@ -8,21 +9,38 @@ use translator::Fence;
 pub enum Expected {
     Done,
     Word(u64),
-    /// Cause, guest level and host level.
-    Fault(u8, u8, u8),
-    Refused(u8),
+    Fault {
+        cause: u8,
+        guest_level: u8,
+        host_level: u8,
+    },
+    Refused(Refusal),
 }
 
 /// An answer, as far as a test looks at it.
-pub fn seen(answer: Answer) -> Expected {
-    match answer {
-        Answer::Done => Expected::Done,
-        Answer::Word(word) => Expected::Word(word),
-        Answer::Faulted(fault) => {
-            let n = fault.numbers();
-            Expected::Fault(n.cause, n.guest_level, n.host_level)
+impl From<Answer> for Expected {
+    fn from(answer: Answer) -> Expected {
+        match answer {
+            Answer::Done => Expected::Done,
+            Answer::Word(word) => Expected::Word(word),
+            Answer::Faulted(fault) => {
+                let numbers = fault.numbers();
+                Expected::Fault {
+                    cause: numbers.cause,
+                    guest_level: numbers.guest_level,
+                    host_level: numbers.host_level,
+                }
+            }
+            Answer::Refused(refusal) => Expected::Refused(refusal),
         }
-        Answer::Refused(refusal) => Expected::Refused(refusal.number()),
+    }
+}
+
+pub fn fault(cause: u8, guest_level: u8, host_level: u8) -> Expected {
+    Expected::Fault {
+        cause,
+        guest_level,
+        host_level,
     }
 }
 

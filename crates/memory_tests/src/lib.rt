@@ -2,44 +2,29 @@
 #![tactic(auto)]
 
 use memory::{Bytes, Joined, Memory, Outside, Words};
-use std::alloc::{AllocError, Global};
 use std::test::Fail;
 
 // The words in 4,096 frames.
 const MOST_WORDS: u64 = 2_097_152;
 
-#[cfg(test)]
-fn frames_of_words(heap: Global, count: usize) -> Result<u64, AllocError> {
-    let mut words = vec![in heap; 0u64; count]?;
-    let memory = Words {
-        words: words.as_mut_slice(),
-    };
-    Ok(memory.frames())
-}
-
-#[cfg(test)]
-fn frames_of_bytes(heap: Global, count: usize) -> Result<u64, AllocError> {
-    let mut bytes = vec![in heap; 0u8; count]?;
-    let memory = Bytes {
-        bytes: bytes.as_mut_slice(),
-    };
-    Ok(memory.frames())
-}
-
 #[test]
 fn words_show_whole_frames(rt: HostRuntime) -> Result<(), Fail> {
-    assert_eq!(rt; frames_of_words(rt.alloc(), 0)?, 0);
-    assert_eq!(rt; frames_of_words(rt.alloc(), 511)?, 0);
-    assert_eq!(rt; frames_of_words(rt.alloc(), 512)?, 1);
-    assert_eq!(rt; frames_of_words(rt.alloc(), 513)?, 1);
+    for (count, frames) in [(0, 0), (511, 0), (512, 1), (513, 1)] {
+        let mut words = vec![in rt.alloc(); 0; count]?;
+        let memory = Words { words: &mut words };
+        assert_eq!(rt; memory.frames(), frames, "{count} words");
+    }
     Ok(())
 }
 
+// One loop for words and bytes would need a bound on every loan of a slice, which is no plainer than two.
 #[test]
 fn bytes_show_whole_frames(rt: HostRuntime) -> Result<(), Fail> {
-    assert_eq!(rt; frames_of_bytes(rt.alloc(), 4095)?, 0);
-    assert_eq!(rt; frames_of_bytes(rt.alloc(), 4096)?, 1);
-    assert_eq!(rt; frames_of_bytes(rt.alloc(), 4097)?, 1);
+    for (count, frames) in [(4095, 0), (4096, 1), (4097, 1)] {
+        let mut bytes = vec![in rt.alloc(); 0; count]?;
+        let memory = Bytes { bytes: &mut bytes };
+        assert_eq!(rt; memory.frames(), frames, "{count} bytes");
+    }
     Ok(())
 }
 
@@ -128,9 +113,7 @@ fn joined_memories_nest(rt: HostRuntime) {
 #[test]
 fn words_show_4096_frames(rt: HostRuntime) -> Result<(), Fail> {
     let mut words = vec![in rt.alloc(); 7u64; 2_097_664]?;
-    let mut memory = Words {
-        words: words.as_mut_slice(),
-    };
+    let mut memory = Words { words: &mut words };
     assert_eq!(rt; memory.frames(), 4096);
     assert_eq!(rt; memory.read(MOST_WORDS - 1), Ok(7));
     assert_eq!(rt; memory.read(MOST_WORDS), Err(Outside));

@@ -2,92 +2,131 @@
 use access::Mode;
 use calls::{Answer, Call, GuestCall, HostCall, Target};
 use fault::Fault;
-use std::alloc::{AllocError, Global};
+use std::fmt;
 use translator::Fence;
 
+/// A value of another crate, as the examples print it.
+#[derive(Clone, Copy)]
+pub struct Shown<T>(pub T);
+
+// What a fence names, or all where it names nothing.
+#[derive(Clone, Copy)]
+struct OrAll<T>(Option<T>);
+
+// A word in its 16 hexadecimal digits.
+#[derive(Clone, Copy)]
+struct Digits(u64);
+
+impl fmt::Display for Digits {
+    fn fmt<W: fmt::Write>(&self, f: &mut fmt::Formatter<W>) -> fmt::Result {
+        write!(f, "{:016x}", self.0)
+    }
+}
+
+impl<T: fmt::Display> fmt::Display for OrAll<T> {
+    fn fmt<W: fmt::Write>(&self, f: &mut fmt::Formatter<W>) -> fmt::Result {
+        match &self.0 {
+            Some(named) => write!(f, "{named}"),
+            None => write!(f, "all"),
+        }
+    }
+}
+
+impl fmt::Display for Shown<Mode> {
+    fn fmt<W: fmt::Write>(&self, f: &mut fmt::Formatter<W>) -> fmt::Result {
+        f.write_str(match self.0 {
+            Mode::Supervisor => "s",
+            Mode::User => "u",
+        })
+    }
+}
+
 /// Where an access goes, and in which mode.
-pub fn target_text(heap: Global, target: Target) -> Result<String, AllocError> {
-    let mode = match target.mode {
-        Mode::Supervisor => 's',
-        Mode::User => 'u',
-    };
-    let (sum, mxr, va) = (target.sum as u8, target.mxr as u8, target.address);
-    format!(in heap; "mode={mode} sum={sum} mxr={mxr} va={va:016x}")
+impl fmt::Display for Shown<Target> {
+    fn fmt<W: fmt::Write>(&self, f: &mut fmt::Formatter<W>) -> fmt::Result {
+        let Target {
+            mode,
+            sum,
+            mxr,
+            address,
+        } = self.0;
+        let (mode, sum, mxr) = (Shown(mode), u8::from(sum), u8::from(mxr));
+        write!(f, "mode={mode} sum={sum} mxr={mxr} va={address:016x}")
+    }
 }
 
 /// The six numbers of a fault.
-pub fn fault_text(heap: Global, fault: Fault) -> Result<String, AllocError> {
-    let n = fault.numbers();
-    let (cause, va, gpa) = (n.cause, n.address, n.guest_physical);
-    let (stage, gl, hl) = (n.stage, n.guest_level, n.host_level);
-    format!(in heap; "cause={cause} va={va:016x} gpa={gpa:016x} stage={stage} gl={gl} hl={hl}")
-}
-
-fn fence_text(heap: Global, fence: Fence) -> Result<String, AllocError> {
-    let va = match fence.address {
-        Some(address) => format!(in heap; "{address:016x}")?,
-        None => format!(in heap; "all")?,
-    };
-    let asid = match fence.asid {
-        Some(asid) => format!(in heap; "{asid}")?,
-        None => format!(in heap; "all")?,
-    };
-    format!(in heap; "guest fence va={va} asid={asid}")
-}
-
-fn host_call_text(heap: Global, call: HostCall) -> Result<String, AllocError> {
-    match call {
-        HostCall::Load { address } => format!(in heap; "host load pa={address:016x}"),
-        HostCall::Store { address, data } => {
-            format!(in heap; "host store pa={address:016x} data={data:016x}")
-        }
-        HostCall::Root { register } => format!(in heap; "host root {register:016x}"),
-        HostCall::Fence => format!(in heap; "host fence"),
-        HostCall::Enter => format!(in heap; "enter"),
+impl fmt::Display for Shown<Fault> {
+    fn fmt<W: fmt::Write>(&self, f: &mut fmt::Formatter<W>) -> fmt::Result {
+        let numbers = self.0.numbers();
+        write!(
+            f,
+            "cause={} va={:016x} gpa={:016x} stage={} gl={} hl={}",
+            numbers.cause,
+            numbers.address,
+            numbers.guest_physical,
+            numbers.stage,
+            numbers.guest_level,
+            numbers.host_level
+        )
     }
 }
 
-fn guest_call_text(heap: Global, call: GuestCall) -> Result<String, AllocError> {
-    match call {
-        GuestCall::Load { target } => {
-            let at = target_text(heap, target)?;
-            format!(in heap; "load {at}")
-        }
-        GuestCall::Store { target, data } => {
-            let at = target_text(heap, target)?;
-            format!(in heap; "store {at} data={data:016x}")
-        }
-        GuestCall::Fetch { target } => {
-            let at = target_text(heap, target)?;
-            format!(in heap; "fetch {at}")
-        }
-        GuestCall::Fence { fence } => fence_text(heap, fence),
-        GuestCall::Root { register } => format!(in heap; "guest root {register:016x}"),
-        GuestCall::Leave => format!(in heap; "leave"),
+impl fmt::Display for Shown<Fence> {
+    fn fmt<W: fmt::Write>(&self, f: &mut fmt::Formatter<W>) -> fmt::Result {
+        let Fence { address, asid } = self.0;
+        let (address, asid) = (OrAll(address.map(Digits)), OrAll(asid));
+        write!(f, "guest fence va={address} asid={asid}")
     }
 }
 
-/// A call.
-pub fn call_text(heap: Global, call: Call) -> Result<String, AllocError> {
-    match call {
-        Call::Host(call) => host_call_text(heap, call),
-        Call::Guest(call) => guest_call_text(heap, call),
-        Call::Unreadable => format!(in heap; "unreadable"),
+impl fmt::Display for Shown<HostCall> {
+    fn fmt<W: fmt::Write>(&self, f: &mut fmt::Formatter<W>) -> fmt::Result {
+        match self.0 {
+            HostCall::Load { address } => write!(f, "host load pa={address:016x}"),
+            HostCall::Store { address, data } => {
+                write!(f, "host store pa={address:016x} data={data:016x}")
+            }
+            HostCall::Root { register } => write!(f, "host root {register:016x}"),
+            HostCall::Fence => write!(f, "host fence"),
+            HostCall::Enter => write!(f, "enter"),
+        }
+    }
+}
+
+impl fmt::Display for Shown<GuestCall> {
+    fn fmt<W: fmt::Write>(&self, f: &mut fmt::Formatter<W>) -> fmt::Result {
+        match self.0 {
+            GuestCall::Load { target } => write!(f, "load {}", Shown(target)),
+            GuestCall::Store { target, data } => {
+                write!(f, "store {} data={data:016x}", Shown(target))
+            }
+            GuestCall::Fetch { target } => write!(f, "fetch {}", Shown(target)),
+            GuestCall::Fence { fence } => write!(f, "{}", Shown(fence)),
+            GuestCall::Root { register } => write!(f, "guest root {register:016x}"),
+            GuestCall::Leave => write!(f, "leave"),
+        }
+    }
+}
+
+impl fmt::Display for Shown<Call> {
+    fn fmt<W: fmt::Write>(&self, f: &mut fmt::Formatter<W>) -> fmt::Result {
+        match self.0 {
+            Call::Host(call) => write!(f, "{}", Shown(call)),
+            Call::Guest(call) => write!(f, "{}", Shown(call)),
+            Call::Unreadable => write!(f, "unreadable"),
+        }
     }
 }
 
 /// What a call answers.
-pub fn answer_text(heap: Global, answer: Answer) -> Result<String, AllocError> {
-    match answer {
-        Answer::Done => format!(in heap; "done"),
-        Answer::Word(word) => format!(in heap; "word {word:016x}"),
-        Answer::Faulted(fault) => {
-            let numbers = fault_text(heap, fault)?;
-            format!(in heap; "fault {numbers}")
-        }
-        Answer::Refused(refusal) => {
-            let number = refusal.number();
-            format!(in heap; "refused {number}")
+impl fmt::Display for Shown<Answer> {
+    fn fmt<W: fmt::Write>(&self, f: &mut fmt::Formatter<W>) -> fmt::Result {
+        match self.0 {
+            Answer::Done => write!(f, "done"),
+            Answer::Word(word) => write!(f, "word {word:016x}"),
+            Answer::Faulted(fault) => write!(f, "fault {}", Shown(fault)),
+            Answer::Refused(refusal) => write!(f, "refused {}", refusal.number()),
         }
     }
 }

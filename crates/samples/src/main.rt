@@ -8,7 +8,7 @@ mod walks;
 use remembered::print_calls;
 use walks::print_walks;
 
-fn run(rt: &HostRuntime) -> anyhow::Result<()> {
+fn run(rt: &(impl Print + AllocGlobal)) -> anyhow::Result<()> {
     print_walks(rt)?;
     print_calls(rt)
 }

@@ -1,16 +1,15 @@
 //! The worked examples of the two-stage walk: one load each.
-use crate::lines::{fault_text, target_text};
+use crate::lines::Shown;
 use access::{Kind, Mode};
-use anyhow::anyhow;
+use anyhow::Context;
 use calls::Target;
-use memory::{Memory, Words};
+use memory::{FRAME_WORDS, Memory, Words};
 use registers::{GuestRoot, HostRoot, Roots};
 use stages::World;
-
-/// The words of one frame.
-const FRAME: usize = 512;
+use std::fmt;
 
 /// One question: a load, at a memory of zero frames but for one word, and two root registers.
+#[derive(Clone, Copy)]
 struct Question {
     frames: usize,
     index: u64,
@@ -18,6 +17,25 @@ struct Question {
     guest: u64,
     host: u64,
     target: Target,
+}
+
+/// The memory and the registers, and then the load.
+impl fmt::Display for Question {
+    fn fmt<W: fmt::Write>(&self, f: &mut fmt::Formatter<W>) -> fmt::Result {
+        let Question {
+            frames,
+            index,
+            word,
+            guest,
+            host,
+            target,
+        } = *self;
+        write!(
+            f,
+            "{frames} frames, word {index} = {word:016x}, guest root {guest:016x}, host root {host:016x}\n  load {}",
+            Shown(target)
+        )
+    }
 }
 
 fn target(mode: Mode, address: u64) -> Target {
@@ -51,64 +69,54 @@ fn zero_frames(address: u64) -> Question {
     }
 }
 
-fn roots(guest: u64, host: u64) -> anyhow::Result<Roots> {
-    let Ok(guest) = GuestRoot::try_from(guest) else {
-        return Err(anyhow!("the guest root register breaks its layout"));
-    };
-    let Ok(host) = HostRoot::try_from(host) else {
-        return Err(anyhow!("the host root register breaks its layout"));
-    };
-    Ok(Roots { guest, host })
-}
-
-fn answer<M: Memory>(
-    rt: &HostRuntime,
-    memory: &M,
-    roots: Roots,
-    target: Target,
-) -> anyhow::Result<()> {
-    match World::new(memory, roots).translate(target.access(Kind::Load)) {
-        Ok(to) => {
-            let index = to.frame as u64 * 512 + to.word as u64;
-            let held = memory.read(index).unwrap_or(0);
-            let (frame, word) = (to.frame, to.word);
-            println!(rt; "  granted: frame={frame} word={word} holding {held:016x}")?;
-        }
-        Err(fault) => {
-            let numbers = fault_text(rt.alloc(), fault)?;
-            println!(rt; "  fault: {numbers}")?;
-        }
+impl Question {
+    fn roots(self) -> anyhow::Result<Roots> {
+        Ok(Roots {
+            guest: GuestRoot::try_from(self.guest)
+                .ok()
+                .context("the guest root register breaks its layout")?,
+            host: HostRoot::try_from(self.host)
+                .ok()
+                .context("the host root register breaks its layout")?,
+        })
     }
-    Ok(())
-}
 
-fn ask(rt: &HostRuntime, question: Question) -> anyhow::Result<()> {
-    let Question {
-        frames,
-        index,
-        word,
-        guest,
-        host,
-        target,
-    } = question;
-    let mut held = vec![in rt.alloc(); 0u64; frames.saturating_mul(FRAME)]?;
-    let mut memory = Words {
-        words: held.as_mut_slice(),
-    };
-    let _ = memory.write(index, word);
-    println!(rt;
-        "{frames} frames, word {index} = {word:016x}, guest root {guest:016x}, host root {host:016x}"
-    )?;
-    let at = target_text(rt.alloc(), target)?;
-    println!(rt; "  load {at}")?;
-    answer(rt, &memory, roots(guest, host)?, target)
+    /// Prints what the load asks, and what comes.
+    fn ask(self, rt: &(impl Print + AllocGlobal)) -> anyhow::Result<()> {
+        let mut words = vec![in rt.alloc(); 0; self.frames.saturating_mul(FRAME_WORDS as usize)]?;
+        let mut memory = Words { words: &mut words };
+        memory
+            .write(self.index, self.word)
+            .ok()
+            .context("the word lies outside the memory")?;
+        println!(rt; "{self}")?;
+        let access = self.target.access(Kind::Load);
+        match World::new(&memory, self.roots()?).translate(access) {
+            Ok(to) => {
+                let index = u64::from(to.frame) * FRAME_WORDS + u64::from(to.word);
+                let held = memory.read(index).unwrap_or(0);
+                println!(rt;
+                    "  granted: frame={} word={} holding {held:016x}",
+                    to.frame, to.word
+                )?;
+            }
+            Err(fault) => println!(rt; "  fault: {}", Shown(fault))?,
+        }
+        Ok(())
+    }
 }
 
 /// Prints what each load asks, and what comes.
-pub fn print_walks(rt: &HostRuntime) -> anyhow::Result<()> {
-    ask(rt, two_frames(Mode::Supervisor, 8))?;
-    ask(rt, two_frames(Mode::User, 8))?;
-    ask(rt, two_frames(Mode::Supervisor, 4))?;
-    ask(rt, two_frames(Mode::Supervisor, 0x40_0000_0000))?;
-    ask(rt, zero_frames(0x10))
+pub fn print_walks(rt: &(impl Print + AllocGlobal)) -> anyhow::Result<()> {
+    let questions = [
+        two_frames(Mode::Supervisor, 8),
+        two_frames(Mode::User, 8),
+        two_frames(Mode::Supervisor, 4),
+        two_frames(Mode::Supervisor, 0x40_0000_0000),
+        zero_frames(0x10),
+    ];
+    for question in questions {
+        question.ask(rt)?;
+    }
+    Ok(())
 }

@@ -4,6 +4,6 @@
 #[cfg(test)]
 mod cases;
 #[cfg(test)]
-mod steps;
+mod scenarios;
 #[cfg(test)]
 mod tests;

@@ -8,7 +8,7 @@ ghost use Rattle.worked.specs.Remembered.{editing, remembering};
 
 use access::Mode;
 use calls::{Answer, Call, GuestCall, HostCall, Target};
-use machine::{Ended, run};
+use machine::run;
 use memory::Words;
 use std::alloc::{AllocError, Global};
 use tlb::Tlb;
@@ -71,6 +71,7 @@ fn two_frames() -> [u64; 1024]
 ///
 /// - `examples`: the worked examples hold, all together.
 /// - `remembered`: the load after the store is answered from what the buffer remembers, and the one after the fence faults.
+#[tactic(auto, using(crate::proofs::Examples::examples))]
 pub fn examples_hold(heap: Global) -> Result<Vec<Answer>, AllocError>
     ensures examples { Examples }
     ensures remembered { IfOk result (λ xs. xs.items ≡ remembering) }
@@ -78,9 +79,6 @@ pub fn examples_hold(heap: Global) -> Result<Vec<Answer>, AllocError>
     let mut words = two_frames();
     let mut memory = Words { words: &mut words };
     let mut buffer = Tlb::new(heap, Nested)?;
-    let Ended {
-        answers,
-        machine: _,
-    } = run(heap, &mut memory, &mut buffer, &calls())?;
-    Ok(answers)
+    let ended = run(heap, &mut memory, &mut buffer, &calls())?;
+    Ok(ended.answers)
 }
