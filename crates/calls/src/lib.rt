@@ -3,7 +3,7 @@
 
 ghost use Rattle.std.specs.Prelude.{◌≡◌, MatchResult};
 ghost use Rattle.calls.specs.declared.Answer.TheVariants.{Done, Word, Faulted, Refused};
-ghost use Rattle.calls.specs.Targets.{access_of};
+ghost use Rattle.calls.specs.Targets.{target_in, access_of};
 
 use access::{Access, Kind, Mode};
 use fault::Fault;
@@ -67,6 +67,18 @@ pub enum Answer {
 }
 
 impl Target {
+    /// An address in a mode, with SUM and MXR 0.
+    pub fn new(mode: Mode, address: u64) -> Target
+        ensures { result ≡ target_in mode address }
+    {
+        Target {
+            mode,
+            sum: false,
+            mxr: false,
+            address,
+        }
+    }
+
     /// The access of this kind.
     pub fn access(self, kind: Kind) -> Access
         ensures { result ≡ access_of kind self }

@@ -45,12 +45,7 @@ pub fn fault(cause: u8, guest_level: u8, host_level: u8) -> Expected {
 }
 
 fn target(address: u64) -> Target {
-    Target {
-        mode: Mode::Supervisor,
-        sum: false,
-        mxr: false,
-        address,
-    }
+    Target::new(Mode::Supervisor, address)
 }
 
 pub fn load(address: u64) -> Call {

@@ -38,15 +38,6 @@ impl fmt::Display for Question {
     }
 }
 
-fn target(mode: Mode, address: u64) -> Target {
-    Target {
-        mode,
-        sum: false,
-        mxr: false,
-        address,
-    }
-}
-
 fn two_frames(mode: Mode, address: u64) -> Question {
     Question {
         frames: 2,
@@ -54,7 +45,7 @@ fn two_frames(mode: Mode, address: u64) -> Question {
         word: 0xc7,
         guest: 0x8000_1000_0000_0001,
         host: 0,
-        target: target(mode, address),
+        target: Target::new(mode, address),
     }
 }
 
@@ -65,7 +56,7 @@ fn zero_frames(address: u64) -> Question {
         word: 0,
         guest: 0,
         host: 0x8000_0000_0000_0004,
-        target: target(Mode::Supervisor, address),
+        target: Target::new(Mode::Supervisor, address),
     }
 }
 

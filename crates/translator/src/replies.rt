@@ -1,5 +1,5 @@
 //! What a translator answers to one access.
-ghost use Rattle.std.specs.Prelude.{◌≡◌, ℕ};
+ghost use Rattle.std.specs.Prelude.{◌≡◌, ℕ, Ok, Some};
 ghost use Rattle.translator.specs.Truth.{both_give};
 ghost use Rattle.translator.specs.Walked.{grant_of, walked_reply};
 
@@ -15,6 +15,18 @@ use table::Leaf;
 pub struct Reply {
     pub outcome: Result<u16, Fault>,
     pub grant: Option<Grant>,
+}
+
+// What a grant answers: its frame, and itself.
+impl From<Grant> for Reply {
+    ghost from_gives = { λ g r. r ≡ record { outcome = Ok g.frame; grant = Some g } };
+
+    fn from(grant: Grant) -> Reply {
+        Reply {
+            outcome: Ok(grant.frame),
+            grant: Some(grant),
+        }
+    }
 }
 
 // Whether both leaves give a kind of access its right.

@@ -2,7 +2,6 @@
 #![tactic(auto)]
 
 ghost use Rattle.std.specs.Prelude.{◌≡◌, IfOk};
-ghost use Rattle.history_examples.specs.Editing.{target};
 ghost use Rattle.worked.specs.Examples.{two_frames, Examples};
 ghost use Rattle.worked.specs.Remembered.{editing, remembering};
 
@@ -25,26 +24,15 @@ const EVERYTHING: Fence = Fence {
     asid: None,
 };
 
-fn in_supervisor(address: u64) -> Target
-    ensures { result ≡ target address }
-{
-    Target {
-        mode: Mode::Supervisor,
-        sum: false,
-        mxr: false,
-        address,
-    }
-}
-
 /// The calls of a guest that loads, clears its own table entry, loads again, fences, and loads again.
 pub fn calls() -> [Call; 7]
     ensures { result ≡ editing }
 {
     let load = GuestCall::Load {
-        target: in_supervisor(8),
+        target: Target::new(Mode::Supervisor, 8),
     };
     let store = GuestCall::Store {
-        target: in_supervisor(0x1000),
+        target: Target::new(Mode::Supervisor, 0x1000),
         data: 0,
     };
     [
