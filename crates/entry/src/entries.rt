@@ -11,6 +11,8 @@ pub struct Entry {
     pub word: u64,
 }
 
+// Each flag has a function of its own, since its name is what the rules say of it; they share `test`, and a flag as an argument
+// would be no plainer.
 impl Entry {
     /// V: the entry is valid.
     pub fn is_valid(self) -> bool

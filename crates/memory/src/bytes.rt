@@ -34,7 +34,8 @@ impl Memory for Bytes<'_> {
     }
 }
 
-// A lent slice is the same memory. Two slices that are joined as they are come back to their lenders with what they hold.
+// A lent slice is the same memory. It differs from a slice of words in how a word is read and written, which is all that its
+// methods do, so that one impl for both would be a trait of as many. Two slices that are joined as they are come back to their lenders with what they hold.
 impl Memory for &mut [u8] {
     ghost words = { λ s. shown_words s.now };
 

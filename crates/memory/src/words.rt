@@ -6,6 +6,8 @@ use crate::frames::{shown_frames, shown_words};
 use crate::{Memory, Outside};
 
 /// Lent words, as a memory of their first whole frames.
+// It stands beside `Bytes`, and both beside the slices: of a slice that is lent on as a memory, without a struct around it, it
+// could not be proved that the lender has what the memory held at its end.
 #[derive(Drop)]
 pub struct Words<'a> {
     pub words: &'a mut [u64],

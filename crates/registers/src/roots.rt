@@ -64,6 +64,8 @@ impl TryFrom<u64> for GuestRoot {
     }
 }
 
+// The two roots share the functions above. They stay two types, since their layouts differ and only the guest has an ASID: a
+// type over the layout would be no plainer.
 impl GuestRoot {
     /// The table to walk, or none under Bare.
     pub fn table(self) -> Option<Table>
