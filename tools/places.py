@@ -78,16 +78,16 @@ def main():
     for name, text in sources:
         for function, rest, line in functions(text):
             body = blanked(rest)
-            if len(body) > 40 and "test" not in text[:0]:
+            if len(body) > 40:
                 same[body].append(f"{name}:{line}: {function}")
             for clause in re.findall(r"(?:ensures|requires)\*? (?:\w+ )?\{ (.*) \}$", rest, re.M):
                 clauses[clause].append(f"{name}:{line}: {function}")
-            head = rest.split("{")[0]
-            named = sorted(set(re.findall(r"\b(\w+: &?(?:mut )?[\w\[\]<>&']+)", head.split("ensures")[0].split("requires")[0])))
+            listed = re.split(r"\b(?:ensures|requires)\b", rest.split("{")[0])[0]
+            listed = re.sub(r"^<.*?>(?=\()", "", listed, flags=re.S)
+            named = sorted(set(re.findall(r"\b((?!rt|heap)\w+: &?(?:mut )?[\w\[\]&']+)", listed)))
             for i, one in enumerate(named):
                 for two in named[i + 1:]:
-                    if not one.startswith("rt:") and not two.startswith("rt:") and not one.startswith("heap:") and not two.startswith("heap:"):
-                        parameters[(one, two)].append(f"{name}:{line}: {function}")
+                    parameters[(one, two)].append(f"{name}:{line}: {function}")
     places[("2", "functions that differ in a type, a variant, a number or a text alone")] = [
         " = ".join(group) for group in same.values() if len(group) > 1]
     places[("5", "a clause that stands in three contracts or more")] = [
