@@ -10,7 +10,7 @@ use Rattle.translator.specs.Fences.{covers_grant}
 use Rattle.tlb.specs.declared.ways.Set.{Set}
 
 -- the first place whose item passes a test
-abbrev pub place : {X : Type 0} → (X → Bool) → List X → Option ℕ
+unfoldable pub place : {X : Type 0} → (X → Bool) → List X → Option ℕ
 place test xs = position test xs
 
 -- the way holds a grant of the same page with an equal ASID, global or not
@@ -43,7 +43,7 @@ filled_by None None g s = with_way s.next g ((s.next + 1) % 4) s
 
 -- the set after a grant was put into it
 abbrev pub filled : Grant → Set → Set
-filled g s = filled_by (place (is_alike g) s.ways) (place is_empty s.ways) g s
+filled g s = filled_by (position (is_alike g) s.ways) (position is_empty s.ways) g s
 
 -- a fence empties a way whose grant it covers, and leaves any other
 abbrev pub spared : Fence → Option Grant → Option Grant

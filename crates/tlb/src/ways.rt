@@ -1,6 +1,6 @@
 //! One set of the buffer: four ways, and which of them is replaced next.
-ghost use Rattle.std.specs.Prelude.{◌≡◌, ◌<◌};
-ghost use Rattle.tlb.specs.Ways.{place, is_alike, is_empty, first_serving, filled, spared, cleared};
+ghost use Rattle.std.specs.Prelude.{◌≡◌, ◌<◌, position};
+ghost use Rattle.tlb.specs.Ways.{is_alike, is_empty, first_serving, filled, spared, cleared};
 
 use access::Access;
 use translator::{Fence, Grant};
@@ -25,7 +25,7 @@ fn spare(fence: Fence, way: Option<Grant>) -> Option<Grant>
 impl Set {
     // The first way with the page and the ASID of the grant.
     fn alike_way(&self, grant: Grant) -> Option<usize>
-        ensures { result ≡ place (is_alike grant) self.now.ways }
+        ensures { result ≡ position (is_alike grant) self.now.ways }
     {
         self.ways.iter().position(|way| {
             way.is_some_and(|held| held.page == grant.page && held.asid == grant.asid)
@@ -34,7 +34,7 @@ impl Set {
 
     // The first empty way.
     fn empty_way(&self) -> Option<usize>
-        ensures { result ≡ place is_empty self.now.ways }
+        ensures { result ≡ position is_empty self.now.ways }
     {
         self.ways.iter().position(|way| way.is_none())
     }
