@@ -13,6 +13,7 @@ use translator::{Fence, Grant};
 const SETS: u64 = 16;
 
 /// Sixteen sets, each grant in the set of its page, each counter below 4.
+// On the heap that `Tlb::new` is handed: an array here would need no length, and be moved whole wherever a buffer is.
 #[derive(Drop)]
 pub(crate) struct Table {
     pub(crate) sets: Vec<Set>,
