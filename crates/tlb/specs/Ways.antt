@@ -1,6 +1,6 @@
 -- One set: four ways, each empty or with a grant, and the number of the way to replace next.
-use Rattle.std.specs.Prelude.{ℕ, ◌+◌, ◌%◌, Bool, true, false, cond, ◌&&◌, List, map, Some, None, Option, ◌==◌, slice_set}
-use Rattle.std.specs.List.{flat_map, find, position}
+use Rattle.std.specs.Prelude.{ℕ, ◌+◌, ◌%◌, Bool, true, false, cond, ◌&&◌, List, map, Some, None, Option, ◌==◌, slice_index_or, slice_set}
+use Rattle.std.specs.List.{flat_map, position}
 use Rattle.std.specs.Option.{option_to_list}
 use Rattle.access.specs.declared.accesses.Access.{Access}
 use Rattle.translator.specs.declared.grants.Grant.{Grant}
@@ -13,6 +13,11 @@ use Rattle.tlb.specs.declared.ways.Set.{Set}
 unfoldable pub place : {X : Type 0} → (X → Bool) → List X → Option ℕ
 place test xs = position test xs
 
+-- the way holds a grant that can answer the access under this ASID
+abbrev pub is_serving : ℕ → Access → Option Grant → Bool
+is_serving asid a None = false
+is_serving asid a (Some g) = serves asid a g
+
 -- the way holds a grant of the same page with an equal ASID, global or not
 abbrev pub is_alike : Grant → Option Grant → Bool
 is_alike g None = false
@@ -23,13 +28,18 @@ abbrev pub is_empty : Option Grant → Bool
 is_empty None = true
 is_empty (Some g) = false
 
+-- the grant of a way, by its place
+abbrev pub way_at : List (Option Grant) → Option ℕ → Option Grant
+way_at ways None = None
+way_at ways (Some i) = slice_index_or ways i None
+
+-- the grant of the first way that can answer
+abbrev pub first_serving : ℕ → Access → List (Option Grant) → Option Grant
+first_serving asid a ways = way_at ways (position (is_serving asid a) ways)
+
 -- the grants in the ways, in order; empty ways are left out
 abbrev pub standing : List (Option Grant) → List Grant
 standing ways = flat_map option_to_list ways
-
--- the grant of the first way that can answer the access under this ASID
-abbrev pub first_serving : ℕ → Access → List (Option Grant) → Option Grant
-first_serving asid a ways = find (serves asid a) (standing ways)
 
 -- the set with a grant in the way i, and the counter as given
 abbrev pub with_way : ℕ → Grant → ℕ → Set → Set
