@@ -10,7 +10,7 @@ use Rattle.tlb.specs.Tables.{hit, stored}
 
 -- the sixteen sets of a buffer, in order
 abbrev pub sets_of : {T : Type 0} → Tlb T → List Set
-sets_of s = vec_items s.table.sets.rows
+sets_of s = vec_items s.table.sets
 
 -- the reply of a grant: its frame, and the grant itself
 abbrev pub served : Grant → Reply

@@ -1,13 +1,13 @@
 -- What holds of the grants in a set after it is filled or cleared, and the invariant of the sets kept.
 use Rattle.std.specs.Prelude.{◌≡◌, ℕ, zero, suc, ◌%◌, ◌<◌, Bool, true, false, cond, List, [], ◌∷◌, map, get_or, Some, None, Option, slice_index_or, slice_set, refl}
 use Rattle.std.proofs.Common.{sym, subst, arith}
-use Rattle.std.specs.List.{ContainsAt as Has, AllByRecursion}
+use Rattle.std.specs.List.{position, ContainsAt as Has, AllByRecursion}
 use Rattle.std.proofs.ByRecursion.{all-has, All-weaker, all_has_itself}
 use Rattle.translator.specs.declared.grants.Grant.{Grant}
 use Rattle.translator.specs.declared.fences.Fence.{Fence}
 use Rattle.translator.specs.Fences.{covers_grant}
 use Rattle.tlb.specs.declared.ways.Set.{Set}
-use Rattle.tlb.specs.Ways.{place, is_alike, is_empty, standing, filled_by, filled, spared, cleared}
+use Rattle.tlb.specs.Ways.{is_alike, is_empty, standing, filled_by, filled, spared, cleared}
 use Rattle.tlb.specs.Tables.{no_set, set_of, Placed, Ready, sets_after}
 
 -- what holds of each grant in the ways of a set
@@ -28,7 +28,7 @@ module _ (P : Grant → Type 0) where
   filled_by_lem None None g s = all_put s.ways s.next g
 
   pub filled_holds : (g : Grant) (s : Set) → P g → Holding P s → Holding P (filled g s)
-  filled_holds g s = filled_by_lem (place (is_alike g) s.ways) (place is_empty s.ways) g s
+  filled_holds g s = filled_by_lem (position (is_alike g) s.ways) (position is_empty s.ways) g s
 
   -- a fence leaves the grants that it does not cover
   pub spared_all : (f : Fence) (ways : List (Option Grant)) → AllByRecursion P (standing ways) → AllByRecursion (λ g. P g × (covers_grant f g ≡ false)) (standing (map (spared f) ways))
@@ -77,7 +77,7 @@ module _ (sets : List Set) (placed : Placed sets) (ready : Ready sets) where
   store_keeps g s e =
       let t = set_of sets g.page in
       let here : Of (g.page % 16) (filled g t) = filled_holds _ g t refl (placed_all sets placed (g.page % 16)) in
-      let low : (filled g t).next < 4 = next_filled_by (place (is_alike g) t.ways) (place is_empty t.ways) g t (ready (g.page % 16)) in (
+      let low : (filled g t).next < 4 = next_filled_by (position (is_alike g) t.ways) (position is_empty t.ways) g t (ready (g.page % 16)) in (
         all_placed _ (each_set Of sets (g.page % 16) s (subst (Of (g.page % 16)) (sym e) here) (placed_all sets placed)),
         (each_set (λ i x. x.next < 4) sets (g.page % 16) s (subst (λ (x : Set). x.next < 4) (sym e) low) ready),
       )

@@ -1,6 +1,6 @@
 -- One set: four ways, each empty or with a grant, and the number of the way to replace next.
-use Rattle.std.specs.Prelude.{ℕ, suc, ◌+◌, ◌%◌, Bool, true, false, cond, ◌&&◌, List, [], ◌∷◌, map, Some, None, Option, ◌==◌, slice_index_or, slice_set}
-use Rattle.std.specs.List.{flat_map}
+use Rattle.std.specs.Prelude.{ℕ, ◌+◌, ◌%◌, Bool, true, false, cond, ◌&&◌, List, map, Some, None, Option, ◌==◌, slice_index_or, slice_set}
+use Rattle.std.specs.List.{flat_map, position}
 use Rattle.std.specs.Option.{option_to_list}
 use Rattle.access.specs.declared.accesses.Access.{Access}
 use Rattle.translator.specs.declared.grants.Grant.{Grant}
@@ -9,15 +9,9 @@ use Rattle.translator.specs.Grants.{serves}
 use Rattle.translator.specs.Fences.{covers_grant}
 use Rattle.tlb.specs.declared.ways.Set.{Set}
 
--- one place further
-abbrev pub after : Option ℕ → Option ℕ
-after None = None
-after (Some i) = Some (suc i)
-
 -- the first place whose item passes a test
 unfoldable pub place : {X : Type 0} → (X → Bool) → List X → Option ℕ
-place test [] = None
-place test (x ∷ xs) = cond (test x) (Some 0) (after (place test xs))
+place test xs = position test xs
 
 -- the way holds a grant that can answer the access under this ASID
 abbrev pub is_serving : ℕ → Access → Option Grant → Bool
@@ -41,7 +35,7 @@ way_at ways (Some i) = slice_index_or ways i None
 
 -- the grant of the first way that can answer
 abbrev pub first_serving : ℕ → Access → List (Option Grant) → Option Grant
-first_serving asid a ways = way_at ways (place (is_serving asid a) ways)
+first_serving asid a ways = way_at ways (position (is_serving asid a) ways)
 
 -- the grants in the ways, in order; empty ways are left out
 abbrev pub standing : List (Option Grant) → List Grant
@@ -59,7 +53,7 @@ filled_by None None g s = with_way s.next g ((s.next + 1) % 4) s
 
 -- the set after a grant was put into it
 abbrev pub filled : Grant → Set → Set
-filled g s = filled_by (place (is_alike g) s.ways) (place is_empty s.ways) g s
+filled g s = filled_by (position (is_alike g) s.ways) (position is_empty s.ways) g s
 
 -- a fence empties a way whose grant it covers, and leaves any other
 abbrev pub spared : Fence → Option Grant → Option Grant

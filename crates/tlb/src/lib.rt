@@ -2,7 +2,6 @@
 #![tactic(auto)]
 
 mod layers;
-mod sets;
 mod tables;
 mod ways;
 

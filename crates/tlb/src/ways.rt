@@ -1,119 +1,60 @@
 //! One set of the buffer: four ways, and which of them is replaced next.
-ghost use Rattle.std.specs.Prelude.{◌≡◌, ◌<◌, true, map, IfSome};
-ghost use Rattle.tlb.specs.Ways.{place, is_serving, is_alike, is_empty, first_serving, filled, spared, cleared};
+ghost use Rattle.std.specs.Prelude.{◌≡◌, ◌<◌, position};
+ghost use Rattle.tlb.specs.Ways.{is_serving, is_alike, is_empty, first_serving, filled, spared, cleared};
 
 use access::Access;
-use search::{Matches, first_match};
 use translator::{Fence, Grant};
 
 /// The ways of a set.
 pub(crate) const WAYS: usize = 4;
 
-// Asks for a way that can answer the access under this ASID.
-#[derive(Drop)]
-struct Serving {
-    asid: u16,
-    access: Access,
-}
-
-// Asks for a way with the page and the ASID of the grant.
-#[derive(Drop)]
-struct Alike {
-    grant: Grant,
-}
-
-// Asks for an empty way.
-#[derive(Drop)]
-struct Empty;
-
-impl Matches<Serving> for Option<Grant> {
-    ghost fits = { λ way q. is_serving q.asid q.access way ≡ true };
-
-    fn is_match(&self, query: &Serving) -> bool {
-        match self {
-            Some(grant) => grant.serves(query.asid, query.access),
-            None => false,
-        }
-    }
-}
-
-impl Matches<Alike> for Option<Grant> {
-    ghost fits = { λ way q. is_alike q.grant way ≡ true };
-
-    fn is_match(&self, query: &Alike) -> bool {
-        match self {
-            Some(grant) => grant.page == query.grant.page && grant.asid == query.grant.asid,
-            None => false,
-        }
-    }
-}
-
-impl Matches<Empty> for Option<Grant> {
-    ghost fits = { λ way q. is_empty way ≡ true };
-
-    fn is_match(&self, _query: &Empty) -> bool {
-        self.is_none()
-    }
+/// Four ways, each empty or with a grant, and the way to replace next.
+#[derive(Clone, Copy, Default)]
+pub(crate) struct Set {
+    pub(crate) ways: [Option<Grant>; WAYS],
+    pub(crate) next: usize,
 }
 
 // What a fence leaves in a way.
 fn spare(fence: Fence, way: Option<Grant>) -> Option<Grant>
     ensures { result ≡ spared fence way }
 {
-    match way {
-        Some(grant) if fence.covers(grant) => None,
-        _ => way,
-    }
-}
-
-fn clear_ways(ways: &mut [Option<Grant>; WAYS], fence: Fence)
-    ensures { ways.new ≡ map (spared fence) ways.old }
-{
-    for way in ways.iter_mut() {
-        *way = spare(fence, *way);
-    }
-}
-
-/// Four ways, each empty or with a grant, and the way to replace next.
-#[derive(Clone, Copy)]
-pub(crate) struct Set {
-    pub(crate) ways: [Option<Grant>; WAYS],
-    pub(crate) next: usize,
+    way.filter(|grant| !fence.covers(*grant))
 }
 
 impl Set {
     // The first way that can answer the access under this ASID.
     fn serving_way(&self, asid: u16, access: Access) -> Option<usize>
-        ensures place { result ≡ place (is_serving asid access) self.now.ways }
-        ensures inside { IfSome result (λ i. i < 4) }
+        ensures { result ≡ position (is_serving asid access) self.now.ways }
     {
-        first_match(&self.ways, &Serving { asid, access })
+        self.ways
+            .iter()
+            .position(|way| way.is_some_and(|grant| grant.serves(asid, access)))
     }
 
     // The first way with the page and the ASID of the grant.
     fn alike_way(&self, grant: Grant) -> Option<usize>
-        ensures place { result ≡ place (is_alike grant) self.now.ways }
-        ensures inside { IfSome result (λ i. i < 4) }
+        ensures { result ≡ position (is_alike grant) self.now.ways }
     {
-        first_match(&self.ways, &Alike { grant })
+        self.ways.iter().position(|way| {
+            way.is_some_and(|held| held.page == grant.page && held.asid == grant.asid)
+        })
     }
 
     // The first empty way.
     fn empty_way(&self) -> Option<usize>
-        ensures place { result ≡ place is_empty self.now.ways }
-        ensures inside { IfSome result (λ i. i < 4) }
+        ensures { result ≡ position is_empty self.now.ways }
     {
-        first_match(&self.ways, &Empty)
+        self.ways.iter().position(|way| way.is_none())
     }
 
     /// The grant of the first way that can answer the access under this ASID.
+    // By its place: a chain through `flatten` was measured at one and a half times as long for a hit.
     pub(crate) fn find(&self, asid: u16, access: Access) -> Option<Grant>
         ensures { result ≡ first_serving asid access self.now.ways }
     {
-        match self.serving_way(asid, access) {
-            Some(i) => self.ways[i],
-            None => None,
-        }
+        let i = self.serving_way(asid, access)?;
+        self.ways[i]
     }
 
     /// Puts the grant in the first way of its page and ASID, else in the first empty way, else in the next way.
@@ -121,11 +62,7 @@ impl Set {
         requires { self.old.next < 4 }
         ensures { self.new ≡ filled grant self.old }
     {
-        if let Some(i) = self.alike_way(grant) {
-            self.ways[i] = Some(grant);
-            return;
-        }
-        if let Some(i) = self.empty_way() {
+        if let Some(i) = self.alike_way(grant).or_else(|| self.empty_way()) {
             self.ways[i] = Some(grant);
             return;
         }
@@ -137,6 +74,8 @@ impl Set {
     pub(crate) fn clear(&mut self, fence: Fence)
         ensures { self.new ≡ cleared fence self.old }
     {
-        clear_ways(&mut self.ways, fence);
+        for way in &mut self.ways {
+            *way = spare(fence, *way);
+        }
     }
 }

@@ -28,14 +28,8 @@ impl Once {
         if !access.is_aligned() || roots.guest.table().is_none() {
             return None;
         }
-        let Some(grant) = self.grant else {
-            return None;
-        };
-        if grant.serves(roots.guest.asid(), access) {
-            Some(grant)
-        } else {
-            None
-        }
+        self.grant
+            .filter(|grant| grant.serves(roots.guest.asid(), access))
     }
 }
 

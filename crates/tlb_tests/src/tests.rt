@@ -57,9 +57,7 @@ fn visit<T: Translator>(
     pages: &[u16],
 ) -> Result<(), Fail> {
     let mut words = vec![in heap; 0u64; WORDS]?;
-    let mut memory = Words {
-        words: words.as_mut_slice(),
-    };
+    let mut memory = Words { words: &mut words };
     memory.write(0, leaf)?;
     for page in pages {
         assert_eq!(rt; load(translator, &memory, asid, *page), Some(*page));
@@ -67,20 +65,18 @@ fn visit<T: Translator>(
     Ok(())
 }
 
-// Checks of each page that it is remembered, or that it is not.
-fn expect<T: Translator>(
-    rt: &impl Abort,
+// What loads of the pages in turn come to where there is no memory: the translator answers from what it remembers.
+fn recall<T: Translator, const N: usize>(
     translator: &mut T,
     asid: u64,
-    pages: &[u16],
-    remembered: bool,
-) {
-    let mut words = [0u64; 0];
-    let memory = Words { words: &mut words };
-    for page in pages {
-        let answer = if remembered { Some(*page) } else { None };
-        assert_eq!(rt; load(translator, &memory, asid, *page), answer);
+    pages: &[u16; N],
+) -> [Option<u16>; N] {
+    let memory = Words { words: &mut [] };
+    let mut answers = [None; N];
+    for (answer, page) in answers.iter_mut().zip(pages) {
+        *answer = load(translator, &memory, asid, *page);
     }
+    answers
 }
 
 #[test]
@@ -94,8 +90,14 @@ fn a_full_set_is_replaced_in_turn(rt: HostRuntime) -> Result<(), Fail> {
         asid: None,
     });
     visit(&rt, rt.alloc(), &mut tlb, LEAF, 1, &[96, 112])?;
-    expect(&rt, &mut tlb, 1, &[64, 80, 112, 48], true);
-    expect(&rt, &mut tlb, 1, &[0, 16, 32, 96], false);
+    assert_eq!(rt;
+        recall(&mut tlb, 1, &[64, 80, 112, 48]),
+        [Some(64), Some(80), Some(112), Some(48)]
+    );
+    assert_eq!(rt;
+        recall(&mut tlb, 1, &[0, 16, 32, 96]),
+        [None, None, None, None]
+    );
     Ok(())
 }
 
@@ -104,7 +106,10 @@ fn a_grant_takes_the_way_of_its_page_and_asid(rt: HostRuntime) -> Result<(), Fai
     let mut tlb = Tlb::new(rt.alloc(), Nested)?;
     visit(&rt, rt.alloc(), &mut tlb, FETCH_LEAF, 1, &[0, 0, 0])?;
     visit(&rt, rt.alloc(), &mut tlb, LEAF, 1, &[16, 32, 0, 48])?;
-    expect(&rt, &mut tlb, 1, &[0, 16, 32, 48], true);
+    assert_eq!(rt;
+        recall(&mut tlb, 1, &[0, 16, 32, 48]),
+        [Some(0), Some(16), Some(32), Some(48)]
+    );
     Ok(())
 }
 
@@ -113,9 +118,9 @@ fn a_page_has_a_way_for_each_asid(rt: HostRuntime) -> Result<(), Fail> {
     let mut tlb = Tlb::new(rt.alloc(), Nested)?;
     visit(&rt, rt.alloc(), &mut tlb, LEAF, 1, &[5])?;
     visit(&rt, rt.alloc(), &mut tlb, LEAF, 2, &[5])?;
-    expect(&rt, &mut tlb, 1, &[5], true);
-    expect(&rt, &mut tlb, 2, &[5], true);
-    expect(&rt, &mut tlb, 3, &[5], false);
+    assert_eq!(rt; recall(&mut tlb, 1, &[5]), [Some(5)]);
+    assert_eq!(rt; recall(&mut tlb, 2, &[5]), [Some(5)]);
+    assert_eq!(rt; recall(&mut tlb, 3, &[5]), [None]);
     Ok(())
 }
 
@@ -127,10 +132,10 @@ fn a_global_grant_answers_every_asid(rt: HostRuntime) -> Result<(), Fail> {
         address: None,
         asid: Some(1),
     });
-    expect(&rt, &mut tlb, 1, &[5], true);
-    expect(&rt, &mut tlb, 2, &[5], true);
+    assert_eq!(rt; recall(&mut tlb, 1, &[5]), [Some(5)]);
+    assert_eq!(rt; recall(&mut tlb, 2, &[5]), [Some(5)]);
     tlb.host_fence();
-    expect(&rt, &mut tlb, 1, &[5], false);
+    assert_eq!(rt; recall(&mut tlb, 1, &[5]), [None]);
     Ok(())
 }
 
@@ -148,22 +153,22 @@ fn a_fence_empties_what_it_covers(rt: HostRuntime) -> Result<(), Fail> {
         address: Some(0x2000),
         asid: None,
     });
-    expect(&rt, &mut tlb, 1, &[1, 2], false);
-    expect(&rt, &mut tlb, 2, &[2], false);
-    expect(&rt, &mut tlb, 1, &[3], true);
-    expect(&rt, &mut tlb, 2, &[1, 3], true);
+    assert_eq!(rt; recall(&mut tlb, 1, &[1, 2]), [None, None]);
+    assert_eq!(rt; recall(&mut tlb, 2, &[2]), [None]);
+    assert_eq!(rt; recall(&mut tlb, 1, &[3]), [Some(3)]);
+    assert_eq!(rt; recall(&mut tlb, 2, &[1, 3]), [Some(1), Some(3)]);
     // one ASID, then everything
     tlb.fence(Fence {
         address: None,
         asid: Some(2),
     });
-    expect(&rt, &mut tlb, 2, &[1, 3], false);
-    expect(&rt, &mut tlb, 1, &[3], true);
+    assert_eq!(rt; recall(&mut tlb, 2, &[1, 3]), [None, None]);
+    assert_eq!(rt; recall(&mut tlb, 1, &[3]), [Some(3)]);
     tlb.fence(Fence {
         address: None,
         asid: None,
     });
-    expect(&rt, &mut tlb, 1, &[3], false);
+    assert_eq!(rt; recall(&mut tlb, 1, &[3]), [None]);
     Ok(())
 }
 
@@ -172,17 +177,17 @@ fn a_buffer_fills_from_the_buffer_below(rt: HostRuntime) -> Result<(), Fail> {
     let mut lower = Tlb::new(rt.alloc(), Nested)?;
     visit(&rt, rt.alloc(), &mut lower, LEAF, 1, &[5, 6])?;
     let mut upper = Tlb::new(rt.alloc(), lower)?;
-    expect(&rt, &mut upper, 1, &[5], true);
-    expect(&rt, &mut upper, 1, &[7], false);
+    assert_eq!(rt; recall(&mut upper, 1, &[5]), [Some(5)]);
+    assert_eq!(rt; recall(&mut upper, 1, &[7]), [None]);
     // a fence reaches both
     upper.fence(Fence {
         address: Some(5 << 12),
         asid: None,
     });
-    expect(&rt, &mut upper, 1, &[5], false);
+    assert_eq!(rt; recall(&mut upper, 1, &[5]), [None]);
     let mut lower = upper.into_below();
-    expect(&rt, &mut lower, 1, &[5], false);
-    expect(&rt, &mut lower, 1, &[6], true);
+    assert_eq!(rt; recall(&mut lower, 1, &[5]), [None]);
+    assert_eq!(rt; recall(&mut lower, 1, &[6]), [Some(6)]);
     Ok(())
 }
 
@@ -192,8 +197,8 @@ fn a_buffer_keeps_what_is_forgotten_below(rt: HostRuntime) -> Result<(), Fail> {
     visit(&rt, rt.alloc(), &mut once, LEAF, 1, &[5])?;
     let mut tlb = Tlb::new(rt.alloc(), once)?;
     // the grant below answers once, and then that of the buffer does
-    expect(&rt, &mut tlb, 1, &[5, 5], true);
+    assert_eq!(rt; recall(&mut tlb, 1, &[5, 5]), [Some(5), Some(5)]);
     let mut once = tlb.into_below();
-    expect(&rt, &mut once, 1, &[5], false);
+    assert_eq!(rt; recall(&mut once, 1, &[5]), [None]);
     Ok(())
 }
