@@ -1,7 +1,7 @@
 -- One step of the cursor: a key cut at '=', and a value cut at a stop.
-use Rattle.std.proofs.Common.{◌≡◌, ℕ, ◌+◌, ◌≤◌, List, ◌∷◌, ◌++◌, length, drop, sym, refl, ap, ◌∙◌, subst, arith, rules}
+use Rattle.std.proofs.Common.{◌≡◌, ℕ, ◌+◌, ◌-◌, ◌<◌, ◌≤◌, List, ◌∷◌, ◌++◌, length, drop, sym, refl, ap, ◌∙◌, subst, arith, rules}
 use Rattle.std.specs.List.{slice_range}
-use Rattle.std.proofs.lemmas.List.{drop-drop, drop_all, take_at, take_rest, length-drop}
+use Rattle.std.proofs.lemmas.List.{drop-drop, drop_all, take_at, take_rest, length-drop, length-append}
 use Rattle.fields.specs.declared.tags.Tag.{Tag}
 use Rattle.fields.specs.declared.tags.Tag.TheVariants.{Op, Mode, Sum, Mxr, Va, Asid, Data, Pa}
 use Rattle.trace.specs.declared.marks.Mark.TheVariants.{Equals, Stop}
@@ -66,3 +66,16 @@ handed line at key after m rest stop f low c d e p =
 -- past the end no field begins
 pub past_end : (line : List ℕ) (at : ℕ) → length line ≤ at → (k : Tag) (v : List ℕ) (t : ℕ) (r : List ℕ) → FieldIn k v t r (drop at line) → ⊥
 past_end line at h = no_key (drop at line) (subst (Lacks Equals) (sym (drop_all at line h)) tt)
+
+-- after a field less of the line is left
+pub goes_on : (line : List ℕ) (at : ℕ) (f : Field) (on stop : ℕ) → Handed line at f on stop → length line - on < length line - at
+goes_on line at f on stop h =
+    let v = f.value.now in
+    omega (
+      arith,
+      ap length h.here.text,
+      length-append (key_text f.tag) (61 ∷ (v ++ (stop ∷ drop on line))),
+      length-append v (stop ∷ drop on line),
+      length-drop at line,
+      length-drop on line,
+    )

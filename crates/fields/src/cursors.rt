@@ -1,6 +1,7 @@
 //! A cursor over the fields of a line.
-ghost use Rattle.std.specs.Prelude.{◌≡◌, ◌↔◌, IsTrue, [], ◌∷◌};
-ghost use Rattle.fields.specs.Cursors.{Next, left_of, TakesValue};
+ghost use Rattle.std.specs.Prelude.{◌≡◌, ◌-◌, ◌↔◌, IsTrue, [], ◌∷◌, length};
+ghost use Rattle.std.specs.Iterator.{at_most};
+ghost use Rattle.fields.specs.Cursors.{NextField, left_of, TakesValue};
 
 use crate::endings::Ending;
 use crate::steps::{Field, field_at};
@@ -28,17 +29,6 @@ impl<'a> Fields<'a> {
         }
     }
 
-    /// The field that begins here; the cursor then stands after what ended its value. Where none begins, it stands as it did.
-    pub fn next(&mut self) -> Option<Field<'a>>
-        ensures line { self.new.line.now ≡ self.old.line.now }
-        ensures next { Next self.old.line.now self.old.at self.old.stop result self.new.at self.new.stop }
-    {
-        let step = field_at(self.line, self.at)?;
-        self.at = step.next;
-        self.stop = step.stop;
-        Some(step.field)
-    }
-
     /// The value of the next field, which is then read: `None`, and nothing read, where the next field has another tag, or
     /// none follows on this line.
     pub fn value(&mut self, tag: Tag) -> Option<&'a [u8]>
@@ -59,5 +49,21 @@ impl<'a> Fields<'a> {
         ensures { IsTrue result ↔ (left_of self.now ≡ 10 ∷ []) }
     {
         self.stop == Ending::LineFeed && self.at >= self.line.len()
+    }
+}
+
+// The fields from here on, whatever ended the value before; the cursor stands where it did where none begins.
+impl<'a> Iterator for Fields<'a> {
+    type Item = Field<'a>;
+
+    ghost next_gives = { NextField };
+
+    ghost remaining = { λ s. at_most (length s.line.now - s.at) };
+
+    fn next(&mut self) -> Option<Field<'a>> {
+        let step = field_at(self.line, self.at)?;
+        self.at = step.next;
+        self.stop = step.stop;
+        Some(step.field)
     }
 }
