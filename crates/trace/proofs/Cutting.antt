@@ -1,5 +1,5 @@
 -- On the lines of a text.
-use Rattle.std.proofs.Common.{◌≡◌, ℕ, zero, suc, ◌+◌, ◌<◌, min, eqb, List, [], ◌∷◌, length, take, drop, sym, refl, ap, ◌∙◌, ⊎_elim, arith}
+use Rattle.std.proofs.Common.{◌≡◌, ℕ, zero, suc, ◌+◌, ◌<◌, ◌≤◌, min, eqb, List, [], ◌∷◌, length, take, drop, sym, refl, ap, ◌∙◌, ⊎_elim, arith}
 use Rattle.std.specs.List.{flat_map, IsFirstMatchOrLen}
 use Rattle.std.proofs.lemmas.Bool.{cases_Bool, cases_lt, cond-true, cond-false}
 use Rattle.std.proofs.lemmas.List.{take_all, drop_all}
@@ -28,6 +28,18 @@ first_part text i n cut some first =
     let back : drop n text ≡ drop (suc i) text = drop_all n text (omega arith) ∙ sym (drop_all (suc i) text (omega arith)) in
     rw (front, back) line)
     (cases_lt i (length text))
+
+-- a text has no more lines than bytes
+pub lines_short : (text : List ℕ) → length (lines_of text) ≤ length text
+unfolding lines_of
+lines_short [] = omega arith
+lines_short (b ∷ bs) =
+    let first : (ls : List (List ℕ)) → length (on_first b ls) ≤ 1 + length ls = elim [ [] ↦ omega arith | l ∷ ls ↦ omega arith ] in
+    let rest = lines_short bs in
+    ⊎_elim
+    (λ e. rw (cond-true (eqb b 10) ((b ∷ []) ∷ lines_of bs) (on_first b (lines_of bs)) e) (omega arith))
+    (λ e. rw (cond-false (eqb b 10) ((b ∷ []) ∷ lines_of bs) (on_first b (lines_of bs)) e) (omega (arith, first (lines_of bs))))
+    (cases_Bool (eqb b 10))
 
 join_first : (b : ℕ) (ls : List (List ℕ)) → flat_map (λ l. l) (on_first b ls) ≡ b ∷ flat_map (λ l. l) ls
 join_first b [] = refl

@@ -1,5 +1,5 @@
 //! Cutting a text into lines.
-ghost use Rattle.std.specs.Prelude.{◌≡◌};
+ghost use Rattle.std.specs.Prelude.{◌≡◌, ◌^◌, ◌<◌, length};
 ghost use Rattle.std.specs.Iterator.{YieldsFirstRef, item_count};
 ghost use Rattle.trace.specs.Lines.{CutsLine, lines_of, lines_left};
 
@@ -20,7 +20,10 @@ pub struct Lines<'a> {
 impl<'a> Lines<'a> {
     /// The lines of a text, from the first on.
     pub fn new(text: &'a [u8]) -> Lines<'a>
-        ensures { lines_left result ≡ lines_of text.now }
+        ensures lines { lines_left result ≡ lines_of text.now }
+
+        // Their count fits a `usize`.
+        ensures few { length (lines_of text.now) < 2 ^ 64 }
     {
         Lines { rest: text }
     }
