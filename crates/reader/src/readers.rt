@@ -4,7 +4,7 @@ ghost use Rattle.operands.specs.Reads.{Spelled};
 ghost use Rattle.reader.specs.Texts.{side_text};
 ghost use Rattle.reader.specs.Reads.{Reads};
 
-use calls::Call;
+use calls::{Call, GuestCall, HostCall};
 use fields::{Fields, Tag};
 use operands::{SideCall, take};
 
@@ -23,9 +23,9 @@ fn side_call<C: SideCall>(line: &[u8]) -> Option<C>
 pub fn read_call(line: &[u8]) -> Call
     ensures { Reads line.now result }
 {
-    if let Some(call) = side_call(line) {
+    if let Some(call) = side_call::<HostCall>(line) {
         Call::Host(call)
-    } else if let Some(call) = side_call(line) {
+    } else if let Some(call) = side_call::<GuestCall>(line) {
         Call::Guest(call)
     } else {
         Call::Unreadable
