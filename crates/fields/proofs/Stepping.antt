@@ -1,7 +1,7 @@
 -- One step of the cursor: a key cut at '=', and a value cut at a stop.
 use Rattle.std.proofs.Common.{◌≡◌, ℕ, ◌+◌, ◌-◌, ◌<◌, ◌≤◌, List, ◌∷◌, ◌++◌, length, drop, sym, refl, ap, ◌∙◌, subst, arith, rules}
 use Rattle.std.specs.List.{slice_range}
-use Rattle.std.proofs.lemmas.List.{drop-drop, drop_all, take_at, take_rest, length-drop, length-append}
+use Rattle.std.proofs.lemmas.List.{drop-drop, take_at, take_rest, length-drop, length-append}
 use Rattle.fields.specs.declared.tags.Tag.{Tag}
 use Rattle.fields.specs.declared.tags.Tag.TheVariants.{Op, Mode, Sum, Mxr, Va, Asid, Data, Pa}
 use Rattle.trace.specs.declared.marks.Mark.TheVariants.{Equals, Stop}
@@ -21,10 +21,6 @@ key_plain Va = search rules
 key_plain Asid = search rules
 key_plain Data = search rules
 key_plain Pa = search rules
-
--- a text with no '=' begins with no field
-pub no_key : (xs : List ℕ) → Lacks Equals xs → (k : Tag) (v : List ℕ) (t : ℕ) (r : List ℕ) → FieldIn k v t r xs → ⊥
-no_key xs lacks k v t r f = cut_never Equals xs (key_text k) (v ++ (t ∷ r)) 61 lacks f.text refl
 
 -- a cut of the rest of a line
 pub cut_rest : (line : List ℕ) (at : ℕ) {xs key after : List ℕ} {m : ℕ} → xs ≡ slice_range line at (length line) → CutAs Equals xs key m after
@@ -62,10 +58,6 @@ handed line at key after m rest stop f low c d e p =
       steps = refl;
       inside = omega (arith, ap length c.whole, length_cut key after m, ap length d.whole, length_cut value rest stop, length-drop at line);
     }
-
--- past the end no field begins
-pub past_end : (line : List ℕ) (at : ℕ) → length line ≤ at → (k : Tag) (v : List ℕ) (t : ℕ) (r : List ℕ) → FieldIn k v t r (drop at line) → ⊥
-past_end line at h = no_key (drop at line) (subst (Lacks Equals) (sym (drop_all at line h)) tt)
 
 -- after a field less of the line is left
 pub goes_on : (line : List ℕ) (at : ℕ) (f : Field) (on stop : ℕ) → Handed line at f on stop → length line - on < length line - at
