@@ -1,13 +1,14 @@
 -- One step of the cursor: a key cut at '=', and a value cut at a stop.
-use Rattle.std.proofs.Common.{◌≡◌, ℕ, ◌+◌, ◌≤◌, List, ◌∷◌, ◌++◌, length, drop, sym, refl, ap, ◌∙◌, subst, arith, rules}
-use Rattle.std.proofs.lemmas.List.{drop-drop, drop_all, take_at, length-drop}
+use Rattle.std.proofs.Common.{◌≡◌, ℕ, ◌+◌, ◌-◌, ◌<◌, ◌≤◌, List, ◌∷◌, ◌++◌, length, drop, sym, refl, ap, ◌∙◌, subst, arith, rules}
+use Rattle.std.specs.List.{slice_range}
+use Rattle.std.proofs.lemmas.List.{drop-drop, take_at, take_rest, length-drop, length-append}
 use Rattle.fields.specs.declared.tags.Tag.{Tag}
 use Rattle.fields.specs.declared.tags.Tag.TheVariants.{Op, Mode, Sum, Mxr, Va, Asid, Data, Pa}
 use Rattle.trace.specs.declared.marks.Mark.TheVariants.{Equals, Stop}
 use Rattle.fields.specs.declared.steps.Field.{Field}
 use Rattle.trace.specs.Marks.{Lacks, CutAs}
 use Rattle.fields.specs.Keys.{key_text}
-use Rattle.fields.specs.Fields.{FieldIn, Handed, tag_of, value_of, place_of}
+use Rattle.fields.specs.Fields.{FieldIn, Handed}
 use Rattle.trace.proofs.Cuts.{cut_once, cut_never, length_cut, drop_cut}
 
 -- no key has '='
@@ -21,9 +22,10 @@ key_plain Asid = search rules
 key_plain Data = search rules
 key_plain Pa = search rules
 
--- a text with no '=' begins with no field
-pub no_key : (xs : List ℕ) → Lacks Equals xs → (k : Tag) (v : List ℕ) (t : ℕ) (r : List ℕ) → FieldIn k v t r xs → ⊥
-no_key xs lacks k v t r f = cut_never Equals xs (key_text k) (v ++ (t ∷ r)) 61 lacks f.text refl
+-- a cut of the rest of a line
+pub cut_rest : (line : List ℕ) (at : ℕ) {xs key after : List ℕ} {m : ℕ} → xs ≡ slice_range line at (length line) → CutAs Equals xs key m after
+    → CutAs Equals (drop at line) key m after
+cut_rest line at {key = key} {after = after} {m = m} e c = subst (λ ys. CutAs Equals ys key m after) (e ∙ take_rest line at) c
 
 module _ (xs key after : List ℕ) (m : ℕ) (c : CutAs Equals xs key m after) (k : Tag) (v : List ℕ) (t : ℕ) (r : List ℕ) (f : FieldIn k v t r xs) where
   -- a field's key and what follows it are those of the cut
@@ -35,28 +37,37 @@ module _ (xs key after : List ℕ) (m : ℕ) (c : CutAs Equals xs key m after) (
   no_value lacks = cut_never Stop after v r t lacks after_key.2 f.stops
 
 -- both cuts make a field
-pub handed : (line : List ℕ) (at : ℕ) (key after : List ℕ) (m : ℕ) (value rest : List ℕ) (stop : ℕ) (k : Tag) (f : Field)
-    → at ≤ length line → CutAs Equals (drop at line) key m after → CutAs Stop after value stop rest
-    → key ≡ key_text k → tag_of f ≡ k → value_of f ≡ value → place_of f ≡ at + length key + 1
-    → Handed line at f (at + length key + 1 + length value + 1) stop
-handed line at key after m value rest stop k f low c d e t v p =
-    let i : at + (length key + 1) ≡ at + length key + 1 = omega arith in
-    let j : at + length key + 1 + (length value + 1) ≡ at + length key + 1 + length value + 1 = omega arith in
-    let one : drop (at + length key + 1) line ≡ after =
+pub handed : (line : List ℕ) (at : ℕ) (key after : List ℕ) (m : ℕ) (rest : List ℕ) (stop : ℕ) (f : Field)
+    → at ≤ length line → CutAs Equals (drop at line) key m after → CutAs Stop after f.value.now stop rest
+    → key ≡ key_text f.tag → f.place ≡ at + length key + 1 → Handed line at f (f.place + length f.value.now + 1) stop
+handed line at key after m rest stop f low c d e p =
+    let value = f.value.now in
+    let i : at + (length key + 1) ≡ f.place = omega arith in
+    let j : f.place + (length value + 1) ≡ f.place + length value + 1 = omega arith in
+    let one : drop f.place line ≡ after =
     ap (λ n. drop n line) (sym i) ∙ sym (drop-drop (length key + 1) at line) ∙ ap (drop (length key + 1)) c.whole ∙ drop_cut key after m in
-    let two : drop (at + length key + 1 + length value + 1) line ≡ rest =
-    ap (λ n. drop n line) (sym j) ∙ sym (drop-drop (length value + 1) (at + length key + 1) line) ∙ ap (drop (length value + 1)) (one ∙ d.whole) ∙ drop_cut value rest stop in
+    let two : drop (f.place + length value + 1) line ≡ rest =
+    ap (λ n. drop n line) (sym j) ∙ sym (drop-drop (length value + 1) f.place line) ∙ ap (drop (length value + 1)) (one ∙ d.whole) ∙ drop_cut value rest stop in
     let cw = c.whole in
     let cm : m ≡ 61 = c.marked in
     let dw = d.whole in
     let tv = take_at value (stop ∷ rest) (length value) refl in
     record {
-      here = record { text = cc; plain = subst (Lacks Stop) (sym v) d.plain; stops = d.marked };
+      here = record { text = cc; plain = d.plain; stops = d.marked };
       place = cc;
-      steps = let lv = ap length v in omega arith;
+      steps = refl;
       inside = omega (arith, ap length c.whole, length_cut key after m, ap length d.whole, length_cut value rest stop, length-drop at line);
     }
 
--- past the end no field begins
-pub past_end : (line : List ℕ) (at : ℕ) → length line ≤ at → (k : Tag) (v : List ℕ) (t : ℕ) (r : List ℕ) → FieldIn k v t r (drop at line) → ⊥
-past_end line at h = no_key (drop at line) (subst (Lacks Equals) (sym (drop_all at line h)) tt)
+-- after a field less of the line is left
+pub goes_on : (line : List ℕ) (at : ℕ) (f : Field) (on stop : ℕ) → Handed line at f on stop → length line - on < length line - at
+goes_on line at f on stop h =
+    let v = f.value.now in
+    omega (
+      arith,
+      ap length h.here.text,
+      length-append (key_text f.tag) (61 ∷ (v ++ (stop ∷ drop on line))),
+      length-append v (stop ∷ drop on line),
+      length-drop at line,
+      length-drop on line,
+    )

@@ -1,3 +1,5 @@
 pub mod Keys
+pub mod Endings
+pub mod Items
 pub mod Fields
 pub mod Cursors

@@ -2,9 +2,11 @@
 #![tactic(auto)]
 
 mod cursors;
+mod endings;
 mod steps;
 mod tags;
 
 pub use cursors::Fields;
+pub use endings::Ending;
 pub use steps::{Field, Step, field_at};
 pub use tags::Tag;

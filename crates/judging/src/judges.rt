@@ -1,12 +1,11 @@
 //! Judging a trace before anything is played. Its frames are judged before its room.
 ghost use Rattle.judging.specs.Judging.{OpensTo, Judges};
 
-use crate::lines::count_lines;
 use crate::openings::Opened;
 use crate::sizes::{FRAME_BYTES, MOST_CALLS, SPARE_ROOM};
 use refusal::Refusal;
 use report::LINE_ROOM;
-use trace::{next_line, read_header};
+use trace::{Lines, next_line, read_header};
 
 /// Opens a trace whose header says 1 to 4,096 frames.
 pub(crate) fn opened(trace: &[u8]) -> Option<Opened<'_>>
@@ -21,13 +20,11 @@ pub(crate) fn opened(trace: &[u8]) -> Option<Opened<'_>>
 pub fn judge<'a>(image: usize, trace: &'a [u8], report: usize) -> Result<&'a [u8], Refusal>
     ensures { Judges image trace.now report result }
 {
-    let Some(Opened { frames, calls }) = opened(trace) else {
-        return Err(Refusal::Frames);
-    };
+    let Opened { frames, calls } = opened(trace).ok_or(Refusal::Frames)?;
     if image != FRAME_BYTES * frames as usize {
         return Err(Refusal::Frames);
     }
-    let count = count_lines(calls);
+    let count = Lines::new(calls).count();
     if count > MOST_CALLS || report < SPARE_ROOM + LINE_ROOM * count {
         return Err(Refusal::Room);
     }

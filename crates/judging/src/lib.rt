@@ -3,7 +3,6 @@
 
 mod inputs;
 mod judges;
-mod lines;
 mod openings;
 mod plans;
 mod sizes;

@@ -1,2 +1,4 @@
-pub mod Tails
 pub mod Shapes
+pub mod Plains
+pub mod Tails
+pub mod Spelling

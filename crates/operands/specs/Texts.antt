@@ -2,7 +2,7 @@
 use Rattle.std.specs.Prelude.{ℕ, List, [], ◌∷◌, codes}
 use Rattle.digits.specs.Hexadecimal.{hex_of}
 use Rattle.fields.specs.declared.tags.Tag.TheVariants.{Mode, Sum, Mxr, Va, Asid, Data, Pa}
-use Rattle.spots.specs.Scans.{Item}
+use Rattle.fields.specs.Items.{Item}
 use Rattle.values.specs.Texts.{mode_text, bit_text, all_or}
 use Rattle.translator.specs.declared.fences.Fence.{Fence}
 use Rattle.calls.specs.declared.Target.{Target}
@@ -18,7 +18,7 @@ target_items t after =
 
 -- the fields of a guest fence
 abbrev pub fence_items : Fence → List Item
-fence_items f = (Va, all_or 16 f.address) ∷ (Asid, all_or 4 f.asid) ∷ []
+fence_items f = (Va, all_or (hex_of 16) f.address) ∷ (Asid, all_or (hex_of 4) f.asid) ∷ []
 
 -- the letter of a call of the host side
 abbrev pub host_letter : HostCall → List ℕ

@@ -2,5 +2,7 @@
 #![tactic(auto)]
 
 mod reads;
+mod sides;
 
-pub use reads::{read_guest, read_host, take};
+pub use reads::take;
+pub use sides::SideCall;

@@ -1,25 +1,24 @@
 //! Reading the next fields of a line.
-ghost use Rattle.std.specs.Prelude.{◌∷◌};
-ghost use Rattle.spots.specs.Reads.{fields_of};
-ghost use Rattle.operands.specs.Texts.{target_items, host_letter, host_rest, guest_letter, guest_rest};
-ghost use Rattle.operands.specs.Reads.{Takes, TakesRest};
+ghost use Rattle.std.specs.Prelude.{[], ◌∷◌};
+ghost use Rattle.fields.specs.Cursors.{left_of};
+ghost use Rattle.operands.specs.Texts.{target_items, fence_items};
+ghost use Rattle.operands.specs.Reads.{Takes};
 
-use calls::{GuestCall, HostCall, Target};
-use fields::Tag;
-use spots::Unread;
+use calls::Target;
+use fields::{Fields, Tag};
 use translator::Fence;
 use values::Value;
 
 /// The value of the next field, where it has this tag and says one.
-pub fn take<V: Value>(fields: &mut Unread<'_>, tag: Tag) -> Option<V>
-    ensures { Takes (λ v fs. (tag, V.Value.text v) ∷ fs) (fields_of fields.old) result (fields_of fields.new) }
+pub fn take<V: Value>(fields: &mut Fields<'_>, tag: Tag) -> Option<V>
+    ensures { Takes (λ v. (tag, V.Value.text v) ∷ []) (left_of fields.old) result (left_of fields.new) }
 {
     V::read(fields.value(tag)?)
 }
 
-// The target of an access.
-fn target(fields: &mut Unread<'_>) -> Option<Target>
-    ensures { Takes target_items (fields_of fields.old) result (fields_of fields.new) }
+/// The target of an access.
+pub(crate) fn target(fields: &mut Fields<'_>) -> Option<Target>
+    ensures { Takes (λ t. target_items t []) (left_of fields.old) result (left_of fields.new) }
 {
     Some(Target {
         mode: take(fields, Tag::Mode)?,
@@ -29,52 +28,12 @@ fn target(fields: &mut Unread<'_>) -> Option<Target>
     })
 }
 
-/// The call of the host side with this letter and the next fields.
-pub fn read_host(fields: &mut Unread<'_>, letter: u8) -> Option<HostCall>
-    ensures { TakesRest host_letter host_rest letter (fields_of fields.old) result (fields_of fields.new) }
+/// A fence of the guest.
+pub(crate) fn fence(fields: &mut Fields<'_>) -> Option<Fence>
+    ensures { Takes fence_items (left_of fields.old) result (left_of fields.new) }
 {
-    match letter as char {
-        'r' => Some(HostCall::Load {
-            address: take(fields, Tag::Pa)?,
-        }),
-        'w' => Some(HostCall::Store {
-            address: take(fields, Tag::Pa)?,
-            data: take(fields, Tag::Data)?,
-        }),
-        'h' => Some(HostCall::Root {
-            register: take(fields, Tag::Data)?,
-        }),
-        'y' => Some(HostCall::Fence),
-        'e' => Some(HostCall::Enter),
-        _ => None,
-    }
-}
-
-/// The call of the guest side with this letter and the next fields.
-pub fn read_guest(fields: &mut Unread<'_>, letter: u8) -> Option<GuestCall>
-    ensures { TakesRest guest_letter guest_rest letter (fields_of fields.old) result (fields_of fields.new) }
-{
-    match letter as char {
-        'l' => Some(GuestCall::Load {
-            target: target(fields)?,
-        }),
-        's' => Some(GuestCall::Store {
-            target: target(fields)?,
-            data: take(fields, Tag::Data)?,
-        }),
-        'f' => Some(GuestCall::Fetch {
-            target: target(fields)?,
-        }),
-        'z' => Some(GuestCall::Fence {
-            fence: Fence {
-                address: take(fields, Tag::Va)?,
-                asid: take(fields, Tag::Asid)?,
-            },
-        }),
-        'g' => Some(GuestCall::Root {
-            register: take(fields, Tag::Data)?,
-        }),
-        'x' => Some(GuestCall::Leave),
-        _ => None,
-    }
+    Some(Fence {
+        address: take(fields, Tag::Va)?,
+        asid: take(fields, Tag::Asid)?,
+    })
 }

@@ -15,7 +15,6 @@ use Rattle.history.proofs.Pushed.{ran_none, ran_push}
 use Rattle.machine.specs.declared.machines.Machine.{Machine}
 use Rattle.machine.specs.declared.machines.Machine.TheVariants.{AtHost, AtGuest}
 use Rattle.machine.specs.Machines.{moment_of}
-use Rattle.trace.specs.Lines.{lines_of}
 use Rattle.reader.specs.Texts.{host_text, guest_text}
 use Rattle.reader.specs.Reads.{ReadsCall}
 use Rattle.report.specs.Lines.{answer_line}
@@ -52,12 +51,12 @@ words_of ws (AtHost side) = refl
 words_of ws (AtGuest side) = refl
 
 module _ {S : Type 0} (T : Ghosts S) where
-  -- from the moment m and the translator u, `count` lines are done and `rest` is the text of the others
-  pub record Progress (m : Moment) (u : S) (lines : List (List ℕ)) (before rest : List ℕ) (count end : ℕ) (n : Moment) (t : S) (after : List ℕ) : Type 0 where
+  -- from the moment m and the translator u, `count` lines are done and the others are left
+  pub record Progress (m : Moment) (u : S) (lines : List (List ℕ)) (before : List ℕ) (left : List (List ℕ)) (count end : ℕ) (n : Moment) (t : S) (after : List ℕ) : Type 0 where
     pub done : List (List ℕ)
     pub calls : List Call
     pub given : List Answer
-    pub split : lines ≡ done ++ lines_of rest
+    pub split : lines ≡ done ++ left
     pub reads : ReadLines done calls
     pub ran : Ran T m u calls given n t
     pub wrote : Wrote before 0 (report_text given) after end
@@ -67,9 +66,9 @@ module _ {S : Type 0} (T : Ghosts S) where
 
 module _ {S : Type 0} {T : Ghosts S} where
   -- nothing is played
-  pub progress_none : (m : Moment) (u : S) (text before : List ℕ) → Progress T m u (lines_of text) before text 0 0 m u before
+  pub progress_none : (m : Moment) (u : S) (lines : List (List ℕ)) (before : List ℕ) → Progress T m u lines before lines 0 0 m u before
   unfolding ReadLines lines_from
-  progress_none m u text before = record {
+  progress_none m u lines before = record {
     done = [];
     calls = [];
     given = [];
@@ -82,27 +81,27 @@ module _ {S : Type 0} {T : Ghosts S} where
     short = omega arith;
   }
 
-  module _ {m : Moment} {u : S} {lines : List (List ℕ)} {before rest : List ℕ} {count end : ℕ} {n : Moment} {t : S} {after : List ℕ}
-      (p : Progress T m u lines before rest count end n t after) where
+  module _ {m : Moment} {u : S} {lines : List (List ℕ)} {before : List ℕ} {left : List (List ℕ)} {count end : ℕ} {n : Moment} {t : S} {after : List ℕ}
+      (p : Progress T m u lines before left count end n t after) where
     -- another line is there: fewer than all lines are done, and a report of `size` bytes has room for its answer
-    pub progress_room : (line : List ℕ) (ls : List (List ℕ)) → lines_of rest ≡ line ∷ ls → (size : ℕ) → 128 * length lines ≤ size
+    pub progress_room : (line : List ℕ) (ls : List (List ℕ)) → left ≡ line ∷ ls → (size : ℕ) → 128 * length lines ≤ size
         → (count < length lines) × (end + 128 ≤ size)
     progress_room line ls e size h =
-        let all : length lines ≡ count + length (lines_of rest) =
-        ap length p.split ∙ length-append p.done (lines_of rest) ∙ ap (λ k. k + length (lines_of rest)) p.lined in
-        let one : length (lines_of rest) ≡ length (line ∷ ls) = ap length e in
+        let all : length lines ≡ count + length left =
+        ap length p.split ∙ length-append p.done left ∙ ap (λ k. k + length left) p.lined in
+        let one : length left ≡ length (line ∷ ls) = ap length e in
         let low : count < length lines = omega arith in
         (low, omega (arith, p.short))
 
     -- one line more
-    pub progress_more : (line rest' : List ℕ) (k : Moment) (v : S) (after' : List ℕ) (end' : ℕ)
-        → lines_of rest ≡ line ∷ lines_of rest' → PlayedLine T n t line (count + 1) after end k v after' end'
-        → Progress T m u lines before rest' (count + 1) end' k v after'
-    progress_more line rest' k v after' end' e q = record {
+    pub progress_more : (line : List ℕ) (left' : List (List ℕ)) (k : Moment) (v : S) (after' : List ℕ) (end' : ℕ)
+        → left ≡ line ∷ left' → PlayedLine T n t line (count + 1) after end k v after' end'
+        → Progress T m u lines before left' (count + 1) end' k v after'
+    progress_more line left' k v after' end' e q = record {
       done = p.done ++ line ∷ [];
       calls = p.calls ++ q.0 ∷ [];
       given = p.given ++ q.1 ∷ [];
-      split = p.split ∙ ap (λ l. p.done ++ l) e ∙ sym (append_assoc p.done (line ∷ []) (lines_of rest'));
+      split = p.split ∙ ap (λ l. p.done ++ l) e ∙ sym (append_assoc p.done (line ∷ []) left');
       reads = read_push p.done p.calls line q.0 p.reads q.2;
       ran = ran_push T m u p.calls p.given n t q.0 q.1 k v p.ran q.3;
       wrote = subst (λ s. Wrote before 0 s after' end') (sym (lines_push 1 p.given q.1 (count + 1) (omega (arith, p.answered)))) (wrote_then p.wrote q.4.2);
@@ -113,10 +112,9 @@ module _ {S : Type 0} {T : Ghosts S} where
 
     -- no line is left
     pub progress_all : RunsAgree T → (ws : List ℕ) (s : S) (vs : List ℕ)
-        → m ≡ start ws → T.clears s u → rest ≡ [] → n.world.words ≡ vs → PlayedLines T ws s lines before vs t after end
-    unfolding lines_of
+        → m ≡ start ws → T.clears s u → left ≡ [] → n.world.words ≡ vs → PlayedLines T ws s lines before vs t after end
     progress_all agree ws s vs first fenced none words =
-        let all : lines ≡ p.done = p.split ∙ ap (λ r. p.done ++ lines_of r) none ∙ append-nil p.done in
+        let all : lines ≡ p.done = p.split ∙ ap (λ r. p.done ++ r) none ∙ append-nil p.done in
         let ran = subst (λ k. Ran T k u p.calls p.given n t) first p.ran in
         let played : Played T (start ws) s p.calls p.given n t = (u, fenced, ran) in
         let both = agree (start ws) s p.calls p.given n t played in

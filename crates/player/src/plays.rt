@@ -12,7 +12,7 @@ use reader::read_call;
 use refusal::Refusal;
 use report::put_answer;
 use sides::HostSide;
-use trace::next_line;
+use trace::Lines;
 use translator::Translator;
 
 // Where a play stands: the machine, how many lines are played, and where the next line of the report begins.
@@ -68,10 +68,8 @@ fn play_lines<M: Memory, T: Translator>(
         count: 0,
         end: 0,
     };
-    let mut rest = calls;
-    while let Some((line, after)) = next_line(rest) {
+    for line in Lines::new(calls) {
         cursor = cursor.play_line(memory, translator, line, report);
-        rest = after;
     }
     cursor.end
 }

@@ -1,3 +1,2 @@
-pub mod Firsts
-pub mod Wholes
+pub mod Sides
 pub mod Once

@@ -3,7 +3,7 @@ use Rattle.std.proofs.Common.{◌≡◌, ℕ, ◌^◌, ◌<◌, Bool, true, fals
 use Rattle.digits.specs.Hexadecimal.{hex_of}
 use Rattle.digits.proofs.Hexes.{hex_of_once, length_hex_of}
 use Rattle.fields.specs.declared.tags.Tag.TheVariants.{Op, Data}
-use Rattle.spots.specs.Scans.{Item}
+use Rattle.fields.specs.Items.{Item}
 use Rattle.access.specs.declared.accesses.Mode.{Mode}
 use Rattle.access.specs.declared.accesses.Mode.TheVariants.{Supervisor, User}
 use Rattle.calls.specs.declared.Target.{Target}
@@ -16,7 +16,8 @@ use Rattle.operands.specs.Texts.{target_items, host_letter, host_rest, guest_let
 use Rattle.values.specs.Reads.{Fits}
 use Rattle.reader.specs.Laws.{HostFits, GuestFits, OneText}
 use Rattle.operands.proofs.Shapes.{host_at_lem, guest_at_lem}
-use Rattle.reader.proofs.Wholes.{host_plain, guest_plain, line_once}
+use Rattle.fields.proofs.Items.{line_once}
+use Rattle.operands.proofs.Plains.{host_plain, guest_plain}
 
 -- the mode and the bit that a text writes
 abbrev mode_by : List ℕ → Mode
@@ -40,7 +41,7 @@ first {f} {g} e = let q : f ≡ g = cc in ap (λ (i : Item). i.1) q
 rest : {f g : Item} {fs gs : List Item} → (f ∷ fs) ≡ (g ∷ gs) → fs ≡ gs
 rest e = cc
 
-all_once : (k : ℕ) (o p : Option ℕ) → (k ≡ 3 → ⊥) → Fits k o → Fits k p → all_or k o ≡ all_or k p → o ≡ p
+all_once : (k : ℕ) (o p : Option ℕ) → (k ≡ 3 → ⊥) → Fits k o → Fits k p → all_or (hex_of k) o ≡ all_or (hex_of k) p → o ≡ p
 all_once k (Some m) (Some n) h a b e = ap Some (hex_of_once k m n a b e)
 all_once k (Some m) None h a b e = absurd (h (sym (length_hex_of k m) ∙ ap length e))
 all_once k None (Some n) h a b e = absurd (h (sym (length_hex_of k n) ∙ ap length (sym e)))

@@ -2,7 +2,7 @@
 use Rattle.std.proofs.Common.{◌≡◌, ℕ, suc, ◌+◌, ◌<◌, List, [], ◌∷◌, ◌++◌, length, get_or, take, drop, sym, refl, ap, ◌∙◌, subst, arith}
 use Rattle.std.proofs.lemmas.List.{drop_more, take-append-drop, get_or-take, length-take-le, length-append}
 use Rattle.std.proofs.ByRecursion.{All-from_get_or}
-use Rattle.search.specs.First.{FirstAt, NoneBelow}
+use Rattle.std.specs.List.{AllWithin, HoldsAt}
 use Rattle.trace.specs.declared.marks.Mark.{Mark}
 use Rattle.trace.specs.Marks.{Is, Lacks, CutAs}
 
@@ -20,17 +20,18 @@ cut_once m (x ∷ v) (y ∷ w) t u r s e pv pt pw pu =
     (cc, i.1, i.2)
 
 -- the first mark cuts
-pub cut_first : (m : Mark) (xs : List ℕ) (n : ℕ) → FirstAt (Is m) xs n → CutAs m xs (take n xs) (get_or xs n 0) (drop (n + 1) xs)
+pub cut_first : (m : Mark) (xs : List ℕ) (n : ℕ) → (n < length xs) × HoldsAt (Is m) xs n × AllWithin (λ b. Is m b → ⊥) xs 0 n
+    → CutAs m xs (take n xs) (get_or xs n 0) (drop (n + 1) xs)
 cut_first m xs n f = record {
-  whole = sym (take-append-drop n xs) ∙ ap (λ l. take n xs ++ l) (drop_more xs n 0 f.inside);
+  whole = sym (take-append-drop n xs) ∙ ap (λ l. take n xs ++ l) (drop_more xs n 0 f.0);
   plain = All-from_get_or (λ b. Is m b → ⊥) (take n xs) 0 (λ i h p.
-      let l : i < n = omega (arith, length-take-le n xs (omega (arith, f.inside))) in
-      f.before i 0 l (subst (Is m) (get_or-take n xs i 0 l) p));
-  marked = f.here 0;
+      let l : i < n = omega (arith, length-take-le n xs (omega (arith, f.0))) in
+      f.2 i 0 (omega arith) l (subst (Is m) (get_or-take n xs i 0 l) p));
+  marked = f.1 0;
 }
 
-pub lacks_all : (m : Mark) (xs : List ℕ) → NoneBelow (Is m) xs (length xs) → Lacks m xs
-lacks_all m xs none = All-from_get_or (λ b. Is m b → ⊥) xs 0 (λ i h p. none i 0 h p)
+pub lacks_all : (m : Mark) (xs : List ℕ) → AllWithin (λ b. Is m b → ⊥) xs 0 (length xs) → Lacks m xs
+lacks_all m xs none = All-from_get_or (λ b. Is m b → ⊥) xs 0 (λ i h p. none i 0 (omega arith) h p)
 
 -- with no mark there is no cut
 lacks_mid : (m : Mark) (v r : List ℕ) (t : ℕ) → Lacks m (v ++ (t ∷ r)) → Is m t → ⊥

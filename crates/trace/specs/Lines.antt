@@ -2,6 +2,7 @@
 use Rattle.std.specs.Prelude.{◌≡◌, ℕ, ◌<◌, cond, List, [], ◌∷◌, ◌++◌, length, Some, None, Option, ◌==◌}
 use Rattle.std.specs.Borrow.{Bor}
 use Rattle.std.specs.List.{flat_map}
+use Rattle.trace.specs.declared.lines.Lines.{Lines}
 
 -- a byte before the first of some lines
 abbrev pub on_first : ℕ → List (List ℕ) → List (List ℕ)
@@ -12,6 +13,10 @@ on_first b (l ∷ ls) = (b ∷ l) ∷ ls
 unfoldable pub lines_of : List ℕ → List (List ℕ)
 lines_of [] = []
 lines_of (b ∷ bs) = cond (b == 10) ((b ∷ []) ∷ lines_of bs) (on_first b (lines_of bs))
+
+-- the lines that are left to hand out
+abbrev pub lines_left : Lines → List (List ℕ)
+lines_left l = lines_of l.rest.now
 
 -- what cutting off the first line answers: the line and the rest, or that there is no text
 abbrev pub CutsLine : List ℕ → Option (Bor (List ℕ) × Bor (List ℕ)) → Type 0

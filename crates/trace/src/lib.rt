@@ -8,5 +8,5 @@ mod marks;
 
 pub use headers::read_header;
 pub use laws::lines_join;
-pub use lines::next_line;
+pub use lines::{Lines, next_line};
 pub use marks::{Cut, Mark, cut_at};

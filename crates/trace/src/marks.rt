@@ -1,7 +1,6 @@
 //! The bytes that end a part of a text, and texts cut at the first of them.
+ghost use Rattle.std.specs.Prelude.{Decides};
 ghost use Rattle.trace.specs.Marks.{Is, Cuts};
-
-use search::{Matches, first_match};
 
 /// What ends a part of a text.
 #[derive(Clone, Copy)]
@@ -14,14 +13,15 @@ pub enum Mark {
     LineFeed,
 }
 
-impl Matches<Mark> for u8 {
-    ghost fits = { λ b m. Is m b };
-
-    fn is_match(&self, query: &Mark) -> bool {
-        match query {
-            Mark::Equals => *self as char == '=',
-            Mark::Stop => *self as char == ' ' || *self as char == '\n',
-            Mark::LineFeed => *self as char == '\n',
+impl Mark {
+    // Whether a byte is such a mark.
+    fn is(self, byte: u8) -> bool
+        ensures { Decides result (Is self byte) }
+    {
+        match self {
+            Mark::Equals => byte == b'=',
+            Mark::Stop => byte == b' ' || byte == b'\n',
+            Mark::LineFeed => byte == b'\n',
         }
     }
 }
@@ -38,9 +38,9 @@ pub struct Cut<'a> {
 pub fn cut_at<'a>(text: &'a [u8], mark: Mark) -> Option<Cut<'a>>
     ensures { Cuts mark text.now result }
 {
-    let at = first_match(text, &mark)?;
+    let at = text.iter().position(|byte| mark.is(*byte))?;
     Some(Cut {
-        before: &text[0..at],
+        before: &text[..at],
         mark: text[at],
         after: &text[at + 1..],
     })

@@ -1,6 +1,5 @@
 -- How the values of fields are written.
 use Rattle.std.specs.Prelude.{ℕ, Bool, true, false, List, Some, None, codes, Option}
-use Rattle.digits.specs.Hexadecimal.{hex_of}
 use Rattle.access.specs.declared.accesses.Mode.{Mode}
 use Rattle.access.specs.declared.accesses.Mode.TheVariants.{Supervisor, User}
 
@@ -12,7 +11,7 @@ abbrev pub bit_text : Bool → List ℕ
 bit_text false = codes "0"
 bit_text true = codes "1"
 
--- a number of k hexadecimal digits, or all
-abbrev pub all_or : ℕ → Option ℕ → List ℕ
-all_or k (Some n) = hex_of k n
-all_or k None = codes "all"
+-- what `text` writes of one, or the word for all of them
+abbrev pub all_or : {A : Type 0} → (A → List ℕ) → Option A → List ℕ
+all_or text (Some a) = text a
+all_or text None = codes "all"

@@ -29,29 +29,23 @@ impl Value for u64 {
     }
 }
 
-// The address of a fence: 16 digits, or all.
-impl Value for Option<u64> {
-    ghost text = { all_or 16 };
+// An ASID: 4 digits.
+impl Value for u16 {
+    ghost text = { hex_of 4 };
 
-    fn read(value: &[u8]) -> Option<Option<u64>> {
-        match value {
-            b"all" => Some(None),
-            _ => Some(Some(number_of(value, 16)?)),
-        }
+    fn read(value: &[u8]) -> Option<u16> {
+        Some(number_of(value, 4)? as u16)
     }
 }
 
-// The ASID of a fence: 4 digits, or all.
-impl Value for Option<u16> {
-    ghost text = { all_or 4 };
+// What a fence names: one of these, or all of them.
+impl<V: Value> Value for Option<V> {
+    ghost text = { all_or V.text };
 
-    fn read(value: &[u8]) -> Option<Option<u16>> {
+    fn read(value: &[u8]) -> Option<Option<V>> {
         match value {
             b"all" => Some(None),
-            _ => {
-                let n = number_of(value, 4)?;
-                Some(Some(n as u16))
-            }
+            _ => V::read(value).map(Some),
         }
     }
 }

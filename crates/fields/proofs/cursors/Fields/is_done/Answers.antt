@@ -1,0 +1,15 @@
+use Rattle.std.proofs.Common.{◌≡◌, ◌≤◌, [], length, drop, ap, arith, rules}
+use Rattle.std.proofs.lemmas.List.{drop_all, length-drop}
+use Rattle.fields.specs.declared.endings.Ending.TheVariants.{LineFeed}
+use Rattle.fields.proofs.cursors.Fields.is_done.Goals as goal
+
+pub returns-then-eq : goal.returns-then-eq
+returns-then-eq c =
+    let f = c.args.self.now in
+    let e : f.stop ≡ LineFeed = search rules in (
+      λ d. let past : length f.line.now ≤ f.at = search rules in
+          let none : drop f.at f.line.now ≡ [] = drop_all f.at f.line.now past in cc,
+      λ q. let none : drop f.at f.line.now ≡ [] = cc in
+          let past : length f.line.now ≤ f.at = omega (arith, ap length none, length-drop f.at f.line.now) in
+          search rules,
+    )
