@@ -1,6 +1,8 @@
 //! Hexadecimal digits, lowercase.
-ghost use Rattle.std.specs.Prelude.{◌≡◌, ◌%◌};
+ghost use Rattle.std.specs.Prelude.{◌≡◌, ◌<◌, ◌%◌};
 ghost use Rattle.digits.specs.Hexadecimal.{digit_char, hex_of, ReadsDigit, ReadsHex};
+
+use arrayvec::ArrayString;
 
 /// The value of a hexadecimal digit: `0` to `9`, `a` to `f`.
 pub fn hex_digit(byte: u8) -> Option<u8>
@@ -29,26 +31,20 @@ pub fn read_hex(bytes: &[u8]) -> Option<u64>
 }
 
 // The character of the last digit of a number.
-fn last_char(n: u64) -> u8
-    ensures { result ≡ digit_char (n % 16) }
+fn last_char(n: u64) -> char
+    ensures digit { result ≡ digit_char (n % 16) }
+    ensures ascii { result < 128 }
 {
-    let digit = (n % 16) as u8;
-    if digit < 10 {
-        b'0' + digit
-    } else {
-        b'a' + (digit - 10)
-    }
+    char::from_digit((n % 16) as u32, 16).unwrap()
 }
 
 /// The 16 digits of a number.
-pub fn hex16(n: u64) -> [u8; 16]
-    ensures { result ≡ hex_of 16 n }
+pub fn hex16(n: u64) -> ArrayString<16>
+    ensures { result.bytes ≡ hex_of 16 n }
 {
-    let mut chars = [b'0'; 16];
-    let mut rest = n;
-    for i in (0..16).rev() {
-        chars[i] = last_char(rest);
-        rest /= 16;
+    let mut digits = ArrayString::new();
+    for place in (0..16u32).rev() {
+        digits.push(last_char(n >> (4 * place)));
     }
-    chars
+    digits
 }
