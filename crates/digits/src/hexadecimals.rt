@@ -4,13 +4,13 @@ ghost use Rattle.digits.specs.Hexadecimal.{digit_char, hex_of, ReadsDigit, Reads
 
 use arrayvec::ArrayString;
 
-/// The value of a hexadecimal digit: `0` to `9`, `a` to `f`.
+/// The value of a hexadecimal digit: `0` to `9`, `a` to `f`. The library's `to_digit` would read capitals too.
 pub fn hex_digit(byte: u8) -> Option<u8>
     ensures { ReadsDigit byte result }
 {
-    match byte as char {
-        '0'..='9' => Some(byte - b'0'),
-        'a'..='f' => Some(byte - b'a' + 10),
+    match byte {
+        b'0'..=b'9' => Some(byte - b'0'),
+        b'a'..=b'f' => Some(byte - b'a' + 10),
         _ => None,
     }
 }
@@ -22,10 +22,11 @@ pub fn read_hex(bytes: &[u8]) -> Option<u64>
     if bytes.len() > 16 {
         return None;
     }
-    let mut n: u64 = 0;
-    for b in bytes {
-        let digit = hex_digit(*b)?;
-        n = n * 16 + digit as u64;
+    // A loop, in which the digits that were read bound the number: a `try_fold` does not know how many came before.
+    let mut n = 0;
+    for &b in bytes {
+        let digit = hex_digit(b)?;
+        n = n * 16 + u64::from(digit);
     }
     Some(n)
 }
