@@ -1,6 +1,5 @@
 -- Numbers as lowercase hexadecimal digits, a fixed number of them.
 use Rattle.std.specs.Prelude.{◌≡◌, ℕ, zero, suc, ◌/◌, ◌%◌, ◌^◌, ◌<◌, ◌≤◌, List, [], ◌∷◌, ◌++◌, length, Some, None, Option, ◌≢◌}
-
 -- the character of a digit below 16: '0' to '9', and then 'a' to 'f'
 pub use Rattle.std.specs.Char.{digit_char}
 

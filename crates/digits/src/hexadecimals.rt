@@ -39,7 +39,7 @@ fn last_char(n: u64) -> char
     char::from_digit((n % 16) as u32, 16).unwrap()
 }
 
-/// The 16 digits of a number.
+/// The 16 digits of a number. They are pushed, since a `write!` of `{:016x}` may fail as far as its contract says.
 pub fn hex16(n: u64) -> ArrayString<16>
     ensures { result.bytes ≡ hex_of 16 n }
 {

@@ -19,7 +19,8 @@ pub const LINE_ROOM: usize = 128;
 // The room for what follows the number of a call.
 const ANSWER_ROOM: usize = 96;
 
-// What follows the number of a call. It lies in the value itself, for a play takes no memory.
+// What follows the number of a call. It lies in the value itself, for a play takes no memory. It is pushed and not
+// printed: a `write!` may fail as far as its contract says, and a line has room.
 type Text = ArrayString<ANSWER_ROOM>;
 
 // Appends a field whose value is a number of at most three digits.
