@@ -1,5 +1,5 @@
 use Rattle.std.proofs.Common.{sym, ◌∙◌, arith}
-use Rattle.digits.proofs.Reading.{Ok-from_some, Err-from_none, utf8, parsed, reads}
+use Rattle.digits.proofs.Reading.{Ok-from_some, Err-from_none, utf8, numeral, reads}
 use Rattle.digits.proofs.decimals.read_decimal.Goals as goal
 
 pub returns-in_err-ok : goal.returns-in_err-ok
@@ -13,8 +13,9 @@ returns-in_err-n c =
     let text = Ok-from_some c.from_utf8.result c.in_ok-ok.field-0 (sym c.ok.ensures.value ∙ c.in_ok-ok.was) in
     let same = (rw text at c.from_utf8.ensures.cases).0 in
     let failed = Err-from_none c.parse.result (sym c.ok-2.ensures.value ∙ c.in_err-n.was) in
+    let refused = rw (same, failed.1) at c.parse.ensures.value.0 in
     rw c.from_residual-in_err-n.ensures
-    (λ n h s e. let read = parsed c.args.bytes.now n h (omega arith) e c.parse.result (rw same at c.parse.ensures.value.0) in cc)
+    (λ n h s e. let number = numeral c.args.bytes.now n h (omega arith) e in refused (number.0, omega (arith, number.1)))
 
 pub returns : goal.returns
 returns c =
