@@ -1,9 +1,10 @@
 -- On numbers in hexadecimal: their digits one by one, and that each has one text.
-use Rattle.std.proofs.Common.{◌≡◌, ℕ, zero, suc, ◌+◌, ◌-◌, ◌*◌, ◌/◌, ◌%◌, ◌^◌, ◌<◌, ◌≤◌, List, [], ◌∷◌, ◌++◌, length, get_or, drop, set, sym, refl, ap, ◌∙◌, ⊎_elim, append_assoc, pow-suc, add-one, arith, lit<}
+use Rattle.std.proofs.Common.{◌≡◌, ℕ, zero, suc, ◌+◌, ◌-◌, ◌*◌, ◌/◌, ◌%◌, ◌^◌, ◌<◌, ◌≤◌, [], ◌∷◌, ◌++◌, length, get_or, sym, refl, ap, ◌∙◌, ⊎_elim, pow-suc, add-one, arith, lit<}
 use native.Mathlib.Nat.{pow-zero, pow-le-pow_right}
 use lib.Arith.{digits_div, digits_mod, digits_lt}
-use Rattle.std.proofs.lemmas.List.{length_push, get_or_append_left, get_or_push, same_from_push, drop-set}
-use Rattle.std.proofs.lemmas.Nat.{mod_below, div_below, div-add-mod'}
+use Rattle.std.proofs.lemmas.List.{length_push, get_or_append_left, get_or_push, same_from_push}
+use Rattle.std.proofs.Math.Nat.{div-div-eq-div-mul}
+use Rattle.std.proofs.lemmas.Nat.{mod_below, div_below, div-add-mod', pow-add}
 use Rattle.std.proofs.lemmas.Bool.Decides.{nat_tests}
 use Rattle.std.proofs.lemmas.Bool.{cases_lt}
 use Rattle.digits.specs.Hexadecimal.{digit_char, hex_of}
@@ -39,25 +40,16 @@ hex_of_room i n h l =
 pub below_push : (i n d : ℕ) → d < 16 → n < 16 ^ i → n * 16 + d < 16 ^ (i + 1)
 below_push i n d h l = rw (add-one, pow-suc) (digits_lt l h)
 
--- the last digit before what stands
-pub hex_of_last : (k n : ℕ) (tail : List ℕ) → hex_of (suc k) n ++ tail ≡ hex_of k (n / 16) ++ (digit_char (n % 16) ∷ tail)
+-- one more of the 16 digits, while i of them are to come
+pub hex_of_next : (n i : ℕ) → 0 < i → i ≤ 16
+    → hex_of (16 - i) (n / 2 ^ (4 * i)) ++ (digit_char (n / 2 ^ (4 * (i - 1)) % 16) ∷ []) ≡ hex_of (16 - (i - 1)) (n / 2 ^ (4 * (i - 1)))
 unfolding hex_of
-hex_of_last k n tail = append_assoc (hex_of k (n / 16)) (digit_char (n % 16) ∷ []) tail
-
--- one digit less to come, and one more that stands
-pub hex_of_back : (i n : ℕ) (text cs : List ℕ) → 0 < i → i ≤ length cs → text ≡ hex_of i n ++ drop i cs
-    → text ≡ hex_of (i - 1) (n / 16) ++ drop (i - 1) (set cs (i - 1) (digit_char (n % 16)))
-hex_of_back zero n text cs h l e = absurd (omega arith)
-hex_of_back (suc k) n text cs h l e =
-    let p : suc k - 1 ≡ k = omega arith in
-    let s = drop-set cs k (digit_char (n % 16)) (omega arith) in
-    let a = hex_of_last k n (drop (suc k) cs) in
-    let q = add-one k in
-    rw p (cc)
-
-pub hex_of_none : (n : ℕ) (cs : List ℕ) → hex_of 0 n ++ drop 0 cs ≡ cs
-unfolding hex_of
-hex_of_none n cs = refl
+hex_of_next n i h l =
+    let k : 16 - (i - 1) ≡ suc (16 - i) = omega arith in
+    let s : 4 * (i - 1) + 4 ≡ 4 * i = omega arith in
+    let q : n / 2 ^ (4 * (i - 1)) / 16 ≡ n / 2 ^ (4 * i) =
+    div-div-eq-div-mul n (2 ^ (4 * (i - 1))) 16 ∙ ap (λ x. n / x) (sym (pow-add 2 (4 * (i - 1)) 4)) ∙ ap (λ x. n / 2 ^ x) s in
+    rw (k, q)
 
 digit_char_once : (c d : ℕ) → c < 16 → d < 16 → digit_char c ≡ digit_char d → c ≡ d
 digit_char_once c d h k e = grind (arith, nat_tests)

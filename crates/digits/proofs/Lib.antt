@@ -1,3 +1,2 @@
 pub mod Hexes
 pub mod Reading
-pub mod Writing

@@ -1,84 +1,56 @@
--- On a decimal number that is read digit by digit.
-use Rattle.std.proofs.Common.{◌≡◌, ℕ, ◌+◌, ◌*◌, ◌%◌, ◌^◌, ◌<◌, ◌≤◌, ◌⊎◌, List, [], ◌∷◌, ◌++◌, map, length, get_or, take, drop, decimal, sym, ap, ◌∙◌, ⊎_elim, arith, lit<}
-use lib.Arith.{digits_div, digits_mod}
-use Rattle.std.specs.Str.Parse.{digits_value}
-use Rattle.std.specs.Char.{digit_value}
-use Rattle.std.specs.Int.Digits.{number_from_digits, number_from_digits_after}
-use Rattle.std.proofs.lemmas.List.{take_more, take_all, get_or_append_left, get_or_push, length_push, take-append-drop, map-append}
-use Rattle.std.proofs.lemmas.Nat.{mod_below}
+-- On a text that `parse` reads, and whether it is how its number is written.
+use Rattle.std.proofs.Common.{◌≡◌, ℕ, ◌^◌, ◌<◌, Bool, true, false, List, get_or, decimal, IsUtf8, Some, None, Ok, Err, Result, sym, refl, ap, ◌∙◌, subst, ⊎_elim, nat_le, arith}
+use Rattle.std.specs.Result.{result_ok}
+use Rattle.std.specs.Bool.{then_some}
+use Rattle.std.specs.Str.Parse.{IsNumeral, ParsesUnsigned, without_leading_plus, digits_value}
 use Rattle.std.proofs.lemmas.Bool.{cases_lt}
-use Rattle.std.proofs.lemmas.Int.Digits.{digits_value_is, number_after_append, number_after_ge}
-use Rattle.std.proofs.lemmas.Fmt.{decimal_digit, decimal_step, decimal_by_steps, decimal_nonempty, decimal_is_IsNumeral, first_decimal}
+use Rattle.std.proofs.lemmas.Bool.Decides.{nat_tests}
+use Rattle.std.proofs.lemmas.Str.{IsUtf8-from_ascii}
+use Rattle.std.proofs.lemmas.Str.Parse.{numerals_by_value, tells_digits}
+use Rattle.std.proofs.lemmas.Fmt.{first_decimal, decimal_digit, IsAscii-decimal, decimal_is_IsNumeral, decimal-digits_value}
+use Rattle.digits.specs.Decimal.{ReadsDecimal}
 
--- i digits were read, and they write n: none yet, or those of a positive number
-abbrev pub Sofar : List ℕ → ℕ → ℕ → Type 0
-Sofar ds i n = ((i ≡ 0) × (n ≡ 0)) ⊎ ((0 < n) × (take i ds ≡ decimal n))
+module _ {T E : Type 0} where
+  -- what `ok` says of a result
+  pub Ok-from_some : (r : Result T E) (x : T) → result_ok r ≡ Some x → r ≡ Ok x
+  Ok-from_some (Ok y) x e = cc
+  Ok-from_some (Err y) x e = absurd (cc)
 
--- one more digit
-decimal_more : (n d : ℕ) → 0 < n → d < 10 → n * 10 + d < 2 ^ 64 → decimal (n * 10 + d) ≡ decimal n ++ ((48 + d) ∷ [])
-decimal_more n d h l s =
-    let q = digits_div n l in let r = digits_mod n l in
-    decimal_step (n * 10 + d) (omega arith) s ∙ ap (λ x. decimal x ++ ((48 + (n * 10 + d) % 10) ∷ [])) q ∙ ap (λ x. decimal n ++ ((48 + x) ∷ [])) r
+  pub Err-from_none : (r : Result T E) → result_ok r ≡ None → (e : E) × (r ≡ Err e)
+  Err-from_none (Ok y) e = absurd (cc)
+  Err-from_none (Err y) e = (y, refl)
 
-pub sofar_more : (ds : List ℕ) (i n d : ℕ) → i < length ds → d < 10 → get_or ds i 0 ≡ 48 + d → 0 < n * 10 + d → n * 10 + d < 2 ^ 64 → Sofar ds i n
-    → take (i + 1) ds ≡ decimal (n * 10 + d)
-sofar_more ds i n d h l e some s so =
-    let t = take_more ds i 0 h in
-    ⊎_elim
-    (λ z. let none : take i ds ≡ [] = ap (λ k. take k ds) z.0 in
-    let m : n * 10 + d ≡ d = omega (arith, z.1) in
-    let g = decimal_digit d l in
-    cc)
-    (λ p. let g = decimal_more n d p.0 l s in
-    let q = p.1 in
-    cc)
-    so
+no_plus : (bs : List ℕ) → 48 < get_or bs 0 0 → without_leading_plus bs ≡ bs
+no_plus bs h = grind (arith, nat_tests)
 
--- every character is a digit
-abbrev Digital : List ℕ → Type 0
-Digital ds = (i : ℕ) → i < length ds → (d : ℕ) × (d < 10) × (get_or ds i 0 ≡ 48 + d)
+-- a number is written in UTF-8, begins with no zero, and is what its digits come to
+module _ (bs : List ℕ) (n : ℕ) (some : 0 < n) (small : n < 2 ^ 16) (e : bs ≡ decimal n) where
+  pub utf8 : IsUtf8 bs
+  utf8 = subst IsUtf8 (sym e) (IsUtf8-from_ascii (decimal n) (IsAscii-decimal n (omega arith)))
 
-push_digital : (ds : List ℕ) (d : ℕ) → d < 10 → Digital ds → Digital (ds ++ ((48 + d) ∷ []))
-push_digital ds d l h i k =
-    ⊎_elim
-    (λ b. let r = h i b in (r.0, r.1, get_or_append_left ds ((48 + d) ∷ []) 0 i b ∙ r.2))
-    (λ p. (d, l, get_or_push ds (48 + d) 0 i (omega (arith, length_push ds (48 + d)))))
-    (cases_lt i (length ds))
+  pub first : 48 < get_or bs 0 0
+  first = omega (arith, first_decimal n some (omega arith), ap (λ l. get_or l 0 0) e)
 
-pub decimal_at : (n : ℕ) → n < 2 ^ 64 → Digital (decimal n)
-decimal_at n s =
-    decimal_by_steps (λ _ ds. Digital ds)
-    (λ d l. push_digital [] d l (λ i k. absurd (omega arith)))
-    (λ m ds l h. push_digital ds (m % 10) (mod_below m 10 (lit< tt)) h) n s
+  pub numeral : IsNumeral 10 (without_leading_plus bs) × (digits_value 10 (without_leading_plus bs) ≡ n)
+  numeral = rw (no_plus bs first) (subst (λ l. IsNumeral 10 l × (digits_value 10 l ≡ n)) (sym e) (decimal_is_IsNumeral n (omega arith)))
 
--- the first digits of a number write no greater one
-value_front : (ds : List ℕ) (i : ℕ) → digits_value 10 (take i ds) ≤ digits_value 10 ds
-value_front ds i =
-    let p = map digit_value (take i ds) in
-    let q = map digit_value (drop i ds) in
-    let whole : digits_value 10 ds ≡ number_from_digits_after 10 (number_from_digits 10 p) q =
-    digits_value_is 10 ds ∙ ap (λ l. number_from_digits 10 (map digit_value l)) (sym (take-append-drop i ds))
-    ∙ ap (number_from_digits 10) (map-append digit_value (take i ds) (drop i ds)) ∙ number_after_append 10 0 p q in
-    omega (arith, whole, digits_value_is 10 (take i ds), number_after_ge 10 (number_from_digits 10 p) q (lit< tt))
+-- a text that is read, and begins with a digit over 0, is how its number is written
+module _ (bs : List ℕ) (m : ℕ) (small : m < 2 ^ 16) (read : ParsesUnsigned {E = ℕ} 16 10 bs (Ok m)) (front : 48 < get_or bs 0 0) where
+  written : bs ≡ decimal m
+  written =
+      let same = no_plus bs front in
+      let numeral = rw same at read in
+      sym (ap decimal numeral.1
+      ∙ decimal-digits_value (numerals_by_value _ tells_digits) bs numeral.0.0.1 numeral.0.0.0 (λ z. absurd (omega arith)) (omega (arith, numeral.1)))
 
-pub front_below : (ds : List ℕ) (i n m : ℕ) → n < 2 ^ 64 → m < 2 ^ 64 → take i ds ≡ decimal n → ds ≡ decimal m → n ≤ m
-front_below ds i n m s l e t =
-    let a = (decimal_is_IsNumeral n s).1 in
-    let b = (decimal_is_IsNumeral m l).1 in
-    omega (arith, value_front ds i, ap (digits_value 10) e, ap (digits_value 10) t, a, b)
+  positive : 0 < m
+  positive = ⊎_elim (λ some. some) (λ none. let z : m ≡ 0 = omega arith in
+      omega (arith, ap (λ l. get_or l 0 0) (written ∙ ap decimal z ∙ decimal_digit 0 (omega arith)))) (cases_lt 0 m)
 
--- no number begins with a zero
-pub leading : (ds : List ℕ) (i n d m : ℕ) → Sofar ds i n → n * 10 + d ≡ 0 → get_or ds i 0 ≡ 48 + d → 0 < m → m < 2 ^ 64 → ds ≡ decimal m → ⊥
-leading ds i n d m so z e h s t =
-    ⊎_elim
-    (λ p. omega (arith, z, e, first_decimal m h s, ap (λ l. get_or l 0 0) t, ap (λ k. get_or ds k 0) p.0))
-    (λ p. omega (arith, z, p.0))
-    so
+  by_test : (limit : ℕ) → limit < 2 ^ 16 → (b : Bool) → nat_le m limit ≡ b → ReadsDecimal limit bs (then_some b m)
+  by_test limit fits true t = (positive, grind (arith, nat_tests), written)
+  by_test limit fits false t = λ n h s e.
+      let k : m ≡ n = read.1 ∙ (numeral bs n h (omega arith) e).1 in grind (arith, nat_tests)
 
--- no number has no digit
-pub lacking : (ds : List ℕ) (i n m : ℕ) → Sofar ds i n → length ds ≤ i → n ≡ 0 → m < 2 ^ 64 → ds ≡ decimal m → ⊥
-lacking ds i n m so l z s t =
-    ⊎_elim (λ p. omega (arith, p.0, l, decimal_nonempty m s, ap length t)) (λ p. omega (arith, z, p.0)) so
-
-pub whole : (ds : List ℕ) (i n : ℕ) → Sofar ds i n → length ds ≤ i → (n ≡ 0 → ⊥) → ds ≡ decimal n
-whole ds i n so l z = ⊎_elim (λ p. absurd (z p.1)) (λ p. sym (take_all i ds l) ∙ p.1) so
+  pub reads : (limit : ℕ) → limit < 2 ^ 16 → ReadsDecimal limit bs (then_some (nat_le m limit) m)
+  reads limit fits = by_test limit fits (nat_le m limit) refl

@@ -1,9 +1,7 @@
 -- Numbers as lowercase hexadecimal digits, a fixed number of them.
-use Rattle.std.specs.Prelude.{◌≡◌, ℕ, zero, suc, ◌+◌, ◌/◌, ◌%◌, ◌^◌, ◌<◌, ◌≤◌, cond, List, [], ◌∷◌, ◌++◌, length, Some, None, Option, ◌≢◌, nat_lt}
-
--- the character of a digit below 16: 48 is '0', and 97 is 'a'
-abbrev pub digit_char : ℕ → ℕ
-digit_char d = cond (nat_lt d 10) (48 + d) (87 + d)
+use Rattle.std.specs.Prelude.{◌≡◌, ℕ, zero, suc, ◌/◌, ◌%◌, ◌^◌, ◌<◌, ◌≤◌, List, [], ◌∷◌, ◌++◌, length, Some, None, Option, ◌≢◌}
+-- the character of a digit below 16: '0' to '9', and then 'a' to 'f'
+pub use Rattle.std.specs.Char.{digit_char}
 
 -- the last k digits of n, the most significant first
 unfoldable pub hex_of : ℕ → ℕ → List ℕ

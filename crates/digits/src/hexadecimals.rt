@@ -1,14 +1,16 @@
 //! Hexadecimal digits, lowercase.
-ghost use Rattle.std.specs.Prelude.{◌≡◌, ◌%◌};
+ghost use Rattle.std.specs.Prelude.{◌≡◌, ◌<◌, ◌%◌};
 ghost use Rattle.digits.specs.Hexadecimal.{digit_char, hex_of, ReadsDigit, ReadsHex};
 
-/// The value of a hexadecimal digit: `0` to `9`, `a` to `f`.
+use arrayvec::ArrayString;
+
+/// The value of a hexadecimal digit: `0` to `9`, `a` to `f`. The library's `to_digit` would read capitals too.
 pub fn hex_digit(byte: u8) -> Option<u8>
     ensures { ReadsDigit byte result }
 {
-    match byte as char {
-        '0'..='9' => Some(byte - b'0'),
-        'a'..='f' => Some(byte - b'a' + 10),
+    match byte {
+        b'0'..=b'9' => Some(byte - b'0'),
+        b'a'..=b'f' => Some(byte - b'a' + 10),
         _ => None,
     }
 }
@@ -20,35 +22,30 @@ pub fn read_hex(bytes: &[u8]) -> Option<u64>
     if bytes.len() > 16 {
         return None;
     }
-    let mut n: u64 = 0;
-    for b in bytes {
-        let digit = hex_digit(*b)?;
-        n = n * 16 + digit as u64;
+    // A loop, in which the digits that were read bound the number: a `try_fold` does not know how many came before.
+    let mut n = 0;
+    for &b in bytes {
+        let digit = hex_digit(b)?;
+        n = n * 16 + u64::from(digit);
     }
     Some(n)
 }
 
 // The character of the last digit of a number.
-fn last_char(n: u64) -> u8
-    ensures { result ≡ digit_char (n % 16) }
+fn last_char(n: u64) -> char
+    ensures digit { result ≡ digit_char (n % 16) }
+    ensures ascii { result < 128 }
 {
-    let digit = (n % 16) as u8;
-    if digit < 10 {
-        b'0' + digit
-    } else {
-        b'a' + (digit - 10)
-    }
+    char::from_digit((n % 16) as u32, 16).unwrap()
 }
 
-/// The 16 digits of a number.
-pub fn hex16(n: u64) -> [u8; 16]
-    ensures { result ≡ hex_of 16 n }
+/// The 16 digits of a number. They are pushed, since a `write!` of `{:016x}` may fail as far as its contract says.
+pub fn hex16(n: u64) -> ArrayString<16>
+    ensures { result.bytes ≡ hex_of 16 n }
 {
-    let mut chars = [b'0'; 16];
-    let mut rest = n;
-    for i in (0..16).rev() {
-        chars[i] = last_char(rest);
-        rest /= 16;
+    let mut digits = ArrayString::new();
+    for place in (0..16u32).rev() {
+        digits.push(last_char(n >> (4 * place)));
     }
-    chars
+    digits
 }

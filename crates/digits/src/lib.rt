@@ -3,8 +3,6 @@
 
 mod decimals;
 mod hexadecimals;
-mod numerals;
 
 pub use decimals::read_decimal;
 pub use hexadecimals::{hex_digit, hex16, read_hex};
-pub use numerals::Numeral;

@@ -1,12 +1,20 @@
--- Loads one after another.
-use Rattle.std.proofs.Common.{ℕ, ◌+◌, ◌%◌, ◌^◌, ◌<◌, List, [], ◌∷◌, ◌++◌, map, length, get_or, take, sum_by, sym, refl, ap, ◌∙◌}
+-- Loads one after another, and their words.
+use Rattle.std.proofs.Common.{ℕ, ◌+◌, ◌%◌, ◌^◌, ◌<◌, List, [], ◌∷◌, ◌++◌, map, length, get_or, take, sum_by, ◌≡◌, Ok, Err, Result, sym, refl, ap, ◌∙◌}
 use native.Mathlib.Nat.{mod-add-mod}
+use Rattle.std.specs.Result.{result_unwrap_or}
 use Rattle.std.proofs.lemmas.List.{map_more}
 use Rattle.std.proofs.lemmas.List.Sums.{sum_by_push}
+use Rattle.fault.specs.declared.faults.Fault.{Fault}
 use Rattle.translator.specs.declared.translators.Translator.{Ghosts}
+use Rattle.calls.specs.Answers.{word_or_fault}
 use Rattle.history.specs.Moments.{Moment}
 use Rattle.history.proofs.Pushed.{ran_none, ran_push}
 use Rattle.exports.specs.Loads.{load_from, word_at, LoadsWord, LoadsFrom}
+
+-- the word that a load gives, 0 for a fault
+pub word_at-load : (r : Result ℕ Fault) → word_at (word_or_fault r) ≡ result_unwrap_or r 0
+word_at-load (Ok word) = refl
+word_at-load (Err fault) = refl
 
 module _ {S : Type 0} {members : Ghosts S} where
   -- no load yet

@@ -1,5 +1,5 @@
 -- A machine that is given its roots, and then loads.
-use Rattle.std.proofs.Common.{◌≡◌, ℕ, Bool, true, false, List, ◌∷◌, Ok, sym, refl, ap, subst, arith}
+use Rattle.std.proofs.Common.{◌≡◌, ℕ, Bool, true, false, List, ◌∷◌, Ok, sym, refl, ap, subst}
 use Rattle.refusal.specs.declared.Refusal.{Refusal}
 use Rattle.refusal.specs.declared.Refusal.TheVariants.{GuestRoot, HostRoot}
 use Rattle.registers.specs.declared.roots.Roots.{Roots}
@@ -19,18 +19,18 @@ use Rattle.exports.specs.Loads.{LoadsFrom, FromRun}
 
 -- a call that is refused failed its test
 refused_by : (test : Bool) (refusal r : Refusal) (m n k : Moment) → accepted test refusal m (Done, n) ≡ (Refused r, k) → (test ≡ false) × (r ≡ refusal)
-refused_by true refusal r m n k e = absurd (let f = ap (λ p. p.0) e in let z : ◌≡◌ {A = ℕ} 0 1 = cc in omega arith)
+refused_by true refusal r m n k e = absurd (let f = ap (λ p. p.0) e in cc)
 refused_by false refusal r m n k e = let f = ap (λ p. p.0) e in (refl, cc)
 
 -- a call that is done passed it
-done_by_lem : (test : Bool) (refusal : Refusal) (m n k : Moment) → accepted test refusal m (Done, n) ≡ (Done, k) → test ≡ true
-done_by_lem true refusal m n k e = refl
-done_by_lem false refusal m n k e = absurd (let f = ap (λ p. p.0) e in let z : ◌≡◌ {A = ℕ} 0 1 = cc in omega arith)
+accepted_by : (test : Bool) (refusal : Refusal) (m n k : Moment) → accepted test refusal m (Done, n) ≡ (Done, k) → test ≡ true
+accepted_by true refusal m n k e = refl
+accepted_by false refusal m n k e = absurd (let f = ap (λ p. p.0) e in cc)
 
 -- a host root register that is accepted keeps its layout
 pub host_accepted : (ws : List ℕ) (before after : Roots) (register : ℕ) → on_host (world_of ws before) (host_call.Root register) ≡ (Done, host_moment ws after)
     → is_host_root register ≡ true
-host_accepted ws before after register e = done_by_lem (is_host_root register) HostRoot _ _ _ e
+host_accepted ws before after register e = accepted_by (is_host_root register) HostRoot _ _ _ e
 
 module _ (ws : List ℕ) (before after : Roots) (register : ℕ) (r : Refusal) where
   -- a root register that is refused breaks its layout

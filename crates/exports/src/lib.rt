@@ -2,6 +2,8 @@
 //!
 //! A slice is a pointer and a length, and a `Global` takes no bytes, so that C passes nothing for it. Nothing holds C to
 //! what a reference promises: it owes slices that are there and aligned, and none that is written may overlap another.
+//!
+//! C names no type parameter, so there is one function for each machine, of one line over what they share.
 #![tactic(auto)]
 
 mod loads;

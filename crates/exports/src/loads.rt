@@ -5,7 +5,7 @@ ghost use Rattle.sides.specs.Sides.{guest_moment};
 ghost use Rattle.piles.specs.Piles.{nested_members, shadow_members, tlb_members, IsNested, NewShadow, NewTlb};
 ghost use Rattle.exports.specs.Loads.{plain_sum, LoadsWord, LoadsFrom, FromRun, LoadsOn, LoadsOnNew};
 
-use crate::results::{DONE, Loaded};
+use crate::results::Loaded;
 use access::Mode;
 use calls::Target;
 use memory::Memory;
@@ -19,8 +19,8 @@ use translator::{Nested, Translator};
 // What both root registers are to be.
 #[derive(Clone, Copy)]
 struct Registers {
-    guest: u64,
-    host: u64,
+    guest_root: u64,
+    host_root: u64,
 }
 
 // The word that a load answers, in mode s with SUM and MXR 0; 0 for a fault.
@@ -38,13 +38,10 @@ fn load_word<M: Memory, T: Translator>(
         mxr: false,
         address,
     };
-    match side.load(memory, translator, target) {
-        Ok(word) => word,
-        Err(_) => 0,
-    }
+    side.load(memory, translator, target).unwrap_or(0)
 }
 
-// Loads from each address in turn, and adds the words up.
+// Loads from each address in turn, and adds the words up: in a loop and not a fold, for each load changes the translator.
 fn sum_words<M: Memory, T: Translator>(
     side: &GuestSide,
     memory: &M,
@@ -54,8 +51,8 @@ fn sum_words<M: Memory, T: Translator>(
     ensures { LoadsFrom T.Translator (guest_moment (M.Memory.words memory.now) side.now.roots) translator.old addresses.now translator.new result }
 {
     let mut sum: u64 = 0;
-    for address in addresses {
-        sum = sum.wrapping_add(load_word(side, memory, translator, *address));
+    for &address in addresses {
+        sum = sum.wrapping_add(load_word(side, memory, translator, address));
     }
     sum
 }
@@ -67,37 +64,32 @@ fn sum_loads<M: Memory, T: Translator>(
     registers: Registers,
     addresses: &[u64],
 ) -> Result<u64, Refusal>
-    ensures plain { result ≡ plain_sum (M.Memory.words memory.now) registers.guest registers.host addresses.now }
-    ensures run { FromRun T.Translator translator.old (M.Memory.words memory.now) registers.guest registers.host addresses.now result }
+    ensures plain { result ≡ plain_sum (M.Memory.words memory.now) registers.guest_root registers.host_root addresses.now }
+    ensures run { FromRun T.Translator translator.old (M.Memory.words memory.now) registers.guest_root registers.host_root addresses.now result }
 {
-    let _ = GuestRoot::try_from(registers.guest)?;
+    let _ = GuestRoot::try_from(registers.guest_root)?;
     let mut host = HostSide::new(translator);
-    host.root(registers.host)?;
+    host.root(registers.host_root)?;
     let mut guest = host.enter();
-    guest.root(registers.guest)?;
+    guest.root(registers.guest_root)?;
     Ok(sum_words(&guest, memory, translator, addresses))
 }
 
 // Loads over the translator that was made, and hands back the sum or the number of a refusal. No register is judged where
 // none could be made.
+#[tactic(auto, unfolding(crate::specs::Loads::LoadsOn))]
 fn load_on<M: Memory, T: Translator + Drop>(
     made: Result<T, AllocError>,
     memory: &M,
     registers: Registers,
     addresses: &[u64],
 ) -> Loaded
-    ensures { LoadsOn T.Translator made (M.Memory.words memory.now) registers.guest registers.host addresses.now result }
+    ensures { LoadsOn T.Translator made (M.Memory.words memory.now) registers.guest_root registers.host_root addresses.now result }
 {
     let Ok(mut translator) = made else {
         return Loaded::NO_MEMORY;
     };
-    match sum_loads(memory, &mut translator, registers, addresses) {
-        Ok(sum) => Loaded { status: DONE, sum },
-        Err(refusal) => Loaded {
-            status: refusal.number() as u64,
-            sum: 0,
-        },
-    }
+    Loaded::from(sum_loads(memory, &mut translator, registers, addresses))
 }
 
 /// Loads on a machine that walks at every access.
@@ -112,8 +104,8 @@ pub extern "C" fn cardreader_loads_nested(
     ensures kept { words.new ≡ words.old }
 {
     let registers = Registers {
-        guest: guest_root,
-        host: host_root,
+        guest_root,
+        host_root,
     };
     load_on(Ok(Nested), &words, registers, addresses)
 }
@@ -132,8 +124,8 @@ pub extern "C" fn cardreader_loads_shadow(
     ensures kept { words.new ≡ words.old }
 {
     let registers = Registers {
-        guest: guest_root,
-        host: host_root,
+        guest_root,
+        host_root,
     };
     load_on(new_shadow(heap, pool_words), &words, registers, addresses)
 }
@@ -151,8 +143,8 @@ pub extern "C" fn cardreader_loads_tlb(
     ensures kept { words.new ≡ words.old }
 {
     let registers = Registers {
-        guest: guest_root,
-        host: host_root,
+        guest_root,
+        host_root,
     };
     load_on(new_tlb(heap), &words, registers, addresses)
 }

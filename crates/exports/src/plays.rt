@@ -3,13 +3,14 @@ ghost use Rattle.std.specs.Prelude.{Ok};
 ghost use Rattle.piles.specs.Piles.{nested_members, shadow_members, tlbs_members, NewShadow, NewTlb};
 ghost use Rattle.exports.specs.Plays.{PlaysOn, PlaysOnNew};
 
-use crate::results::{DONE, Played};
+use crate::results::Played;
 use piles::{new_shadow, new_tlbs};
 use player::play;
 use std::alloc::{AllocError, Global};
 use translator::{Nested, Translator};
 
 // Plays over the translator that was made, and hands back the length of the report or the number of a refusal.
+#[tactic(auto, unfolding(crate::specs::Plays::PlaysOn))]
 fn play_on<T: Translator + Drop>(
     made: Result<T, AllocError>,
     image: &mut [u8],
@@ -21,16 +22,7 @@ fn play_on<T: Translator + Drop>(
     let Ok(mut translator) = made else {
         return Played::NO_MEMORY;
     };
-    match play(image, &mut translator, trace, report) {
-        Ok(length) => Played {
-            status: DONE,
-            length: length as u64,
-        },
-        Err(refusal) => Played {
-            status: refusal.number() as u64,
-            length: 0,
-        },
-    }
+    Played::from(play(image, &mut translator, trace, report))
 }
 
 /// Plays on a machine that walks at every access.

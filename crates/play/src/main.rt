@@ -5,22 +5,21 @@ use judging::{Plan, judge_input};
 use piles::{new_shadow, new_tlbs};
 use player::play;
 use refusal::Refusal;
-use std::io::{Read, Write};
+use std::io::Read;
 use translator::{Nested, Translator};
 
 /// The words of a pool: four frames.
 const POOL_WORDS: usize = 2048;
 
 // Prints why nothing was played.
-fn print_refusal(rt: &HostRuntime, refusal: Refusal) -> anyhow::Result<()> {
-    let number = refusal.number();
-    println!(rt; "refused={number}")?;
+fn print_refusal(rt: &impl Print, refusal: Refusal) -> anyhow::Result<()> {
+    println!(rt; "refused={}", refusal.number())?;
     Ok(())
 }
 
 // Plays the input over one machine, and prints its report under its name.
 fn play_one<T: Translator>(
-    rt: &HostRuntime,
+    rt: &(impl Print + AllocGlobal),
     input: &[u8],
     plan: Plan,
     name: &str,
@@ -28,17 +27,10 @@ fn play_one<T: Translator>(
 ) -> anyhow::Result<()> {
     let mut image = vec![in rt.alloc(); 0u8; plan.image_len()]?;
     let mut report = vec![in rt.alloc(); 0u8; plan.report_len()]?;
-    match play(
-        image.as_mut_slice(),
-        translator,
-        input,
-        report.as_mut_slice(),
-    ) {
+    match play(&mut image, translator, input, &mut report) {
         Ok(len) => {
-            report.truncate(len);
-            let frames = plan.frames;
-            println!(rt; "machine={name} frames={frames}")?;
-            rt.stdout().write_all(report.as_slice())?;
+            println!(rt; "machine={name} frames={}", plan.frames)?;
+            rt.write_all(&report[..len])?;
             Ok(())
         }
         Err(refusal) => print_refusal(rt, refusal),
@@ -46,7 +38,7 @@ fn play_one<T: Translator>(
 }
 
 // The machines, in their order.
-fn play_each(rt: &HostRuntime, input: &[u8], plan: Plan) -> anyhow::Result<()> {
+fn play_each(rt: &(impl Print + AllocGlobal), input: &[u8], plan: Plan) -> anyhow::Result<()> {
     play_one(rt, input, plan, "nested", &mut Nested)?;
     let mut shadow = new_shadow(rt.alloc(), POOL_WORDS)?;
     play_one(rt, input, plan, "shadow", &mut shadow)?;
@@ -54,11 +46,11 @@ fn play_each(rt: &HostRuntime, input: &[u8], plan: Plan) -> anyhow::Result<()> {
     play_one(rt, input, plan, "tlb+tlb+shadow", &mut tlbs)
 }
 
-fn run(rt: &HostRuntime) -> anyhow::Result<()> {
+fn run(rt: &(impl Input + Print + AllocGlobal)) -> anyhow::Result<()> {
     let mut input = Vec::new(rt.alloc());
-    rt.stdin().read_to_end(&mut input)?;
-    match judge_input(input.as_slice()) {
-        Ok(plan) => play_each(rt, input.as_slice(), plan),
+    rt.reader().read_to_end(&mut input)?;
+    match judge_input(&input) {
+        Ok(plan) => play_each(rt, &input, plan),
         Err(refusal) => print_refusal(rt, refusal),
     }
 }

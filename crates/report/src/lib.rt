@@ -1,107 +1,101 @@
 //! The lines of a report, written into bytes that are lent.
 #![tactic(auto)]
 
-ghost use Rattle.std.specs.Prelude.{◌≡◌, ◌+◌, ◌≤◌, length, decimal};
+ghost use Rattle.std.specs.Prelude.{◌≡◌, ◌+◌, ◌≤◌, ◌++◌, length, decimal};
+ghost use Rattle.arrayvec.specs.ArrayString.{array_string_len};
 ghost use Rattle.digits.specs.Hexadecimal.{hex_of};
-ghost use Rattle.report.specs.Lines.{numbers_text, answer_text, answer_line};
-ghost use Rattle.report.specs.Writing.{Wrote, PutsLine};
+ghost use Rattle.report.specs.Lines as lines;
+ghost use Rattle.report.specs.Writing.{PutsLine};
 
+use arrayvec::ArrayString;
 use calls::Answer;
-use digits::{Numeral, hex16};
+use digits::hex16;
 use fault::Numbers;
+use itoa::Buffer;
 
 /// The room that a line is given: no line is longer.
 pub const LINE_ROOM: usize = 128;
 
-// Writes a text at `at`, and says where it ends.
-fn put(out: &mut [u8], at: usize, text: &[u8]) -> usize
-    requires { at + length text.now ≤ length out.old }
-    ensures end { result ≡ at + length text.now }
-    ensures wrote { Wrote out.old at text.now out.new result }
+// The room for what follows the number of a call.
+const ANSWER_ROOM: usize = 96;
+
+// What follows the number of a call. It lies in the value itself, for a play takes no memory. It is pushed and not
+// printed: a `write!` may fail as far as its contract says, and a line has room.
+type Text = ArrayString<ANSWER_ROOM>;
+
+// Appends a field whose value is a number of at most three digits.
+fn push_number(text: &mut Text, name: &str, number: u8)
+    requires { array_string_len text.old + length name.now + 3 ≤ ANSWER_ROOM }
+    ensures bytes { text.new.bytes ≡ text.old.bytes ++ name.now ++ decimal number }
+    ensures len { array_string_len text.new ≤ array_string_len text.old + length name.now + 3 }
 {
-    let end = at + text.len();
-    out[at..end].copy_from_slice(text);
-    end
+    text.push_str(name);
+    text.push_str(Buffer::new().format(number));
 }
 
-// Writes the 16 hexadecimal digits of a word.
-fn put_word(out: &mut [u8], at: usize, word: u64) -> usize
-    requires { at + 16 ≤ length out.old }
-    ensures end { result ≡ at + 16 }
-    ensures wrote { Wrote out.old at (hex_of 16 word) out.new result }
+// Appends a field whose value is a word.
+fn push_word(text: &mut Text, name: &str, word: u64)
+    requires { array_string_len text.old + length name.now + 16 ≤ ANSWER_ROOM }
+    ensures bytes { text.new.bytes ≡ text.old.bytes ++ name.now ++ hex_of 16 word }
+    ensures len { array_string_len text.new ≤ array_string_len text.old + length name.now + 16 }
 {
-    let chars = hex16(word);
-    put(out, at, &chars)
+    text.push_str(name);
+    text.push_str(&hex16(word));
 }
 
-// Writes a number in decimal.
-fn put_number(out: &mut [u8], at: usize, n: u64) -> usize
-    requires { at + length (decimal n) ≤ length out.old }
-    ensures { Wrote out.old at (decimal n) out.new result }
+// The six numbers of a fault.
+fn fault_text(fault: Numbers) -> Text
+    ensures { result.bytes ≡ lines.numbers_text fault }
 {
-    let numeral = Numeral::of(n);
-    put(out, at, numeral.as_bytes())
+    let mut text = ArrayString::new();
+    push_number(&mut text, " ans=fault cause=", fault.cause);
+    push_word(&mut text, " va=", fault.address);
+    push_word(&mut text, " gpa=", fault.guest_physical);
+    push_number(&mut text, " stage=", fault.stage);
+    push_number(&mut text, " gl=", fault.guest_level);
+    push_number(&mut text, " hl=", fault.host_level);
+    text
 }
 
-// Writes a number of at most three digits.
-fn put_small(out: &mut [u8], at: usize, n: u8) -> usize
-    requires { at + 3 ≤ length out.old }
-    ensures end { result ≤ at + 3 }
-    ensures wrote { Wrote out.old at (decimal n) out.new result }
+// What follows the number of the call.
+fn answer_text(answer: Answer) -> Text
+    ensures { result.bytes ≡ lines.answer_text answer }
 {
-    put_number(out, at, n as u64)
-}
-
-// Writes the six numbers of a fault.
-fn put_fault(out: &mut [u8], at: usize, fault: Numbers) -> usize
-    requires { at + 90 ≤ length out.old }
-    ensures end { result ≤ at + 90 }
-    ensures wrote { Wrote out.old at (numbers_text fault) out.new result }
-{
-    let at = put(out, at, b" ans=fault cause=");
-    let at = put_small(out, at, fault.cause);
-    let at = put(out, at, b" va=");
-    let at = put_word(out, at, fault.address);
-    let at = put(out, at, b" gpa=");
-    let at = put_word(out, at, fault.guest_physical);
-    let at = put(out, at, b" stage=");
-    let at = put_small(out, at, fault.stage);
-    let at = put(out, at, b" gl=");
-    let at = put_small(out, at, fault.guest_level);
-    let at = put(out, at, b" hl=");
-    put_small(out, at, fault.host_level)
-}
-
-// Writes what follows the number of the call.
-fn put_body(out: &mut [u8], at: usize, answer: Answer) -> usize
-    requires { at + 90 ≤ length out.old }
-    ensures end { result ≤ at + 90 }
-    ensures wrote { Wrote out.old at (answer_text answer) out.new result }
-{
+    let mut text = ArrayString::new();
     match answer {
-        Answer::Done => put(out, at, b" ans=ok"),
-        Answer::Word(word) => {
-            let at = put(out, at, b" ans=word data=");
-            put_word(out, at, word)
-        }
+        Answer::Done => text.push_str(" ans=ok"),
+        Answer::Word(word) => push_word(&mut text, " ans=word data=", word),
         Answer::Refused(refusal) => {
-            let at = put(out, at, b" ans=refused number=");
-            put_small(out, at, refusal.number())
+            push_number(&mut text, " ans=refused number=", refusal.number());
         }
-        Answer::Faulted(fault) => put_fault(out, at, fault.numbers()),
+        Answer::Faulted(fault) => return fault_text(fault.numbers()),
     }
+    text
+}
+
+// The line of the n-th call.
+fn answer_line(n: u64, answer: Answer) -> ArrayString<LINE_ROOM>
+    ensures { result.bytes ≡ lines.answer_line n answer }
+{
+    let mut line = ArrayString::new();
+    line.push_str("n=");
+    line.push_str(Buffer::new().format(n));
+    line.push_str(&answer_text(answer));
+    line.push_str("\n");
+    line
 }
 
 /// Writes the line of the n-th call at `at`, and says where it ends: `None`, and nothing written, where less than
 /// `LINE_ROOM` is left.
 pub fn put_answer(out: &mut [u8], at: usize, n: u64, answer: Answer) -> Option<usize>
-    ensures { PutsLine out.old at (answer_line n answer) out.new result }
+    ensures { PutsLine out.old at (lines.answer_line n answer) out.new result }
 {
-    if at > out.len() || out.len() - at < LINE_ROOM {
+    let room = out.len().checked_sub(at)?;
+    if room < LINE_ROOM {
         return None;
     }
-    let at = put(out, at, b"n=");
-    let at = put_number(out, at, n);
-    let at = put_body(out, at, answer);
-    Some(put(out, at, b"\n"))
+    let line = answer_line(n, answer);
+    let end = at + line.len();
+    out[at..end].copy_from_slice(line.as_bytes());
+    Some(end)
 }

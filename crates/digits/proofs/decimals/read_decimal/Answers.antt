@@ -1,45 +1,26 @@
-use Rattle.std.proofs.Common.{◌+◌, ◌*◌, length, get_or, ap, ◌∙◌, inr, ⊎_elim, arith}
-use Rattle.digits.proofs.Reading.{decimal_at, sofar_more, front_below, leading, lacking, whole}
+use Rattle.std.proofs.Common.{sym, ◌∙◌, arith}
+use Rattle.digits.proofs.Reading.{Ok-from_some, Err-from_none, utf8, numeral, reads}
 use Rattle.digits.proofs.decimals.read_decimal.Goals as goal
 
-pub returns-in_err-digit : goal.returns-in_err-digit
-returns-in_err-digit c =
+pub returns-in_err-ok : goal.returns-in_err-ok
+returns-in_err-ok c =
+    let failed = Err-from_none c.from_utf8.result (sym c.ok.ensures.value ∙ c.in_err-ok.was) in
     rw c.from_residual.ensures
-    (λ n h s e. let i = c.loop-b.b-index in
-    let r = decimal_at n (omega arith) i (omega (arith, ap length e)) in
-    c.in_err-digit.ensures r.0 r.1 (ap (λ l. get_or l i 0) e ∙ r.2))
+    (λ n h s e. (rw failed.1 at c.from_utf8.ensures.cases).0 (utf8 c.args.bytes.now n h (omega arith) e))
 
 pub returns-in_err-n : goal.returns-in_err-n
 returns-in_err-n c =
-    let bs = c.args.bytes.now in
-    let i = c.loop-b.b-index in
-    let n = c.loop-b.n in
-    let d = c.in_ok-digit.digit in
-    let at = c.in_ok-digit.ensures in
+    let text = Ok-from_some c.from_utf8.result c.in_ok-ok.field-0 (sym c.ok.ensures.value ∙ c.in_ok-ok.was) in
+    let same = (rw text at c.from_utf8.ensures.cases).0 in
+    let failed = Err-from_none c.parse.result (sym c.ok-2.ensures.value ∙ c.in_err-n.was) in
+    let refused = rw (same, failed.1) at c.parse.ensures.value.0 in
     rw c.from_residual-in_err-n.ensures
-    (λ m h s e. ⊎_elim
-    (λ zero. leading bs i n d m c.loop-b.invariant.1 zero at.1 h (omega arith) e)
-    (λ past. let t = sofar_more bs i n d c.loop-b-test.true at.0 at.1 (omega arith) (omega (arith, at.0, c.loop-b.invariant.0)) c.loop-b.invariant.1 in
-    omega (arith, past, front_below bs (i + 1) (n * 10 + d) m (omega (arith, at.0, c.loop-b.invariant.0)) (omega arith) t e))
-    c.in_err-n.ensures)
+    (λ n h s e. let number = numeral c.args.bytes.now n h (omega arith) e in refused (number.0, omega (arith, number.1)))
 
-pub loop-b-preserved : goal.loop-b-preserved
-loop-b-preserved c =
-    let d = c.in_ok-digit.ensures in
-    let grown = c.in_ok-n.ensures in
-    rw grown.0 (
-      grown.2,
-      inr (
-        grown.1,
-        sofar_more c.args.bytes.now c.loop-b.b-index c.loop-b.n c.in_ok-digit.digit c.loop-b-test.true d.0 d.1
-            grown.1 (omega (arith, grown.2)) c.loop-b.invariant.1,
-      ),
-    )
-
-pub returns-then-n-eq0 : goal.returns-then-n-eq0
-returns-then-n-eq0 c n h s e =
-    lacking c.args.bytes.now c.loop-b.b-index c.loop-b.n n c.loop-b.invariant.1 c.loop-b-test.false c.if-n-eq0.true (omega arith) e
-
-pub returns-else-n-eq0 : goal.returns-else-n-eq0
-returns-else-n-eq0 c =
-    (omega arith, c.loop-b.invariant.0, whole c.args.bytes.now c.loop-b.b-index c.loop-b.n c.loop-b.invariant.1 c.loop-b-test.false c.if-n-eq0.false)
+pub returns : goal.returns
+returns c =
+    let text = Ok-from_some c.from_utf8.result c.in_ok-ok.field-0 (sym c.ok.ensures.value ∙ c.in_ok-ok.was) in
+    let same = (rw text at c.from_utf8.ensures.cases).0 in
+    let number = Ok-from_some c.parse.result c.in_ok-n.n (sym c.ok-2.ensures.value ∙ c.in_ok-n.was) in
+    rw c.then_some.ensures
+    (reads c.args.bytes.now c.in_ok-n.n (omega arith) (rw (same, number) at c.parse.ensures.value.0) (omega arith) c.args.limit (omega arith))

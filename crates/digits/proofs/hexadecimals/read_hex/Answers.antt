@@ -31,7 +31,7 @@ loop-b-preserved c =
     let t = take_more c.args.bytes.now i 0 c.loop-b-test.true in
     let p = hex_of_push i c.loop-b.n c.in_ok-digit.digit d.0 in
     let e = d.1 in
-    ((cc), below_push i c.loop-b.n c.in_ok-digit.digit d.0 c.loop-b.invariant.1)
+    rw c.from.ensures ((cc), below_push i c.loop-b.n c.in_ok-digit.digit d.0 c.loop-b.invariant.1)
 
 pub returns : goal.returns
 returns c =

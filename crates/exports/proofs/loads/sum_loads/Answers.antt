@@ -9,7 +9,7 @@ returns-in_err-root g c =
     let ws = g.M.Memory.words c.args.memory.now in
     let guest = c.in_ok-try_from.ensures.0 in
     let host =
-    host_refused ws c.new-host.result.roots c.root.new.self.roots c.args.registers.host c.in_err-root.field-0.0
+    host_refused ws c.new-host.result.roots c.root.new.self.roots c.args.registers.host_root c.in_err-root.field-0.0
     (c.in_err-root.ensures ws) in
     search rules
 
@@ -18,7 +18,7 @@ returns-in_err-root-2 g c =
     let ws = g.M.Memory.words c.args.memory.now in
     let guest = c.in_ok-try_from.ensures.0 in
     let again =
-    guest_refused ws c.enter-guest.result.roots c.root-2.new.self.roots c.args.registers.guest c.in_err-root-2.field-0.0
+    guest_refused ws c.enter-guest.result.roots c.root-2.new.self.roots c.args.registers.guest_root c.in_err-root-2.field-0.0
     (c.in_err-root-2.ensures ws) in
     search rules
 
@@ -30,14 +30,14 @@ returns g c =
     runs_agree g.T.Translator
     g.met.T.Translator.answered g.met.T.Translator.fenced g.met.T.Translator.cleared in
     let run =
-    runs_loads ws c.args.registers.guest c.args.registers.host c.new-host.result.roots c.root.new.self.roots c.enter-guest.result.roots
+    runs_loads ws c.args.registers.guest_root c.args.registers.host_root c.new-host.result.roots c.root.new.self.roots c.enter-guest.result.roots
     c.root-2.new.self.roots c.args.translator.now c.new-host.new.translator c.sum_words.new.translator c.args.addresses.now
     c.sum_words.result (c.new-host.ensures.made ws) c.new-host.ensures.fenced rooted c.enter-guest.ensures (c.in_ok-root-2.ensures ws)
     c.sum_words.ensures in
-    let kept = host_accepted ws c.new-host.result.roots c.root.new.self.roots c.args.registers.host rooted in
+    let kept = host_accepted ws c.new-host.result.roots c.root.new.self.roots c.args.registers.host_root rooted in
     record {
       plain =
-          sum_is_plain g.T.Translator agree c.args.translator.now ws c.args.registers.guest c.args.registers.host c.args.addresses.now
+          sum_is_plain g.T.Translator agree c.args.translator.now ws c.args.registers.guest_root c.args.registers.host_root c.args.addresses.now
           c.sum_words.result c.in_ok-try_from.ensures.0 kept run;
       run = run;
     }
