@@ -32,12 +32,7 @@ fn load_word<M: Memory, T: Translator>(
 ) -> u64
     ensures { LoadsWord T.Translator (guest_moment (M.Memory.words memory.now) side.now.roots) translator.old address translator.new result }
 {
-    let target = Target {
-        mode: Mode::Supervisor,
-        sum: false,
-        mxr: false,
-        address,
-    };
+    let target = Target::new(Mode::Supervisor, address);
     side.load(memory, translator, target).unwrap_or(0)
 }
 

@@ -56,10 +56,7 @@ impl<T: Translator> Translator for Tlb<T> {
 
     fn access<M: Memory>(&mut self, world: &World<'_, M>, access: Access) -> Reply {
         if let Some(grant) = self.table.find(world.roots(), access) {
-            return Reply {
-                outcome: Ok(grant.frame),
-                grant: Some(grant),
-            };
+            return grant.into();
         }
         let reply = self.below.access(world, access);
         self.table.store(reply.grant);
@@ -72,10 +69,7 @@ impl<T: Translator> Translator for Tlb<T> {
     }
 
     fn host_fence(&mut self) {
-        self.table.clear(Fence {
-            address: None,
-            asid: None,
-        });
+        self.table.clear(Fence::EVERYTHING);
         self.below.host_fence();
     }
 }

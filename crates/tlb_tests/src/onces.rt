@@ -51,10 +51,7 @@ impl Translator for Once {
     fn access<M: Memory>(&mut self, world: &World<'_, M>, access: Access) -> Reply {
         if let Some(grant) = self.answering(world.roots(), access) {
             self.grant = None;
-            return Reply {
-                outcome: Ok(grant.frame),
-                grant: Some(grant),
-            };
+            return grant.into();
         }
         let reply = walked(world, access);
         self.grant = reply.grant;

@@ -12,6 +12,12 @@ pub struct Fence {
 }
 
 impl Fence {
+    /// The fence of every address and every ASID.
+    pub const EVERYTHING: Fence = Fence {
+        address: None,
+        asid: None,
+    };
+
     /// Whether it covers the grant.
     pub fn covers(self, grant: Grant) -> bool
         ensures { result ≡ covers_grant self grant }

@@ -19,11 +19,6 @@ const ROOT: u64 = 0x8000_1000_0000_0001;
 // The guest's only table entry, with V R W A D: it maps the first GiB, page p to frame p.
 const ENTRY: u64 = 0xc7;
 
-const EVERYTHING: Fence = Fence {
-    address: None,
-    asid: None,
-};
-
 /// The calls of a guest that loads, clears its own table entry, loads again, fences, and loads again.
 pub fn calls() -> [Call; 7]
     ensures { result ≡ editing }
@@ -41,7 +36,7 @@ pub fn calls() -> [Call; 7]
         Call::Guest(load),
         Call::Guest(store),
         Call::Guest(load),
-        Call::Guest(GuestCall::Fence { fence: EVERYTHING }),
+        Call::Guest(GuestCall::Fence { fence: Fence::EVERYTHING }),
         Call::Guest(load),
     ]
 }
