@@ -2,7 +2,7 @@
 ghost use Rattle.std.specs.Prelude.{◌≡◌};
 ghost use Rattle.leaves.specs.Fences.{unmapped, emptied, fenced};
 
-use layout::{Asid, VirtualPage};
+use layout::{Asid, Place, VirtualPage};
 use pool::Pool;
 use translator::Fence;
 
@@ -13,7 +13,7 @@ fn unmap(pool: &mut Pool, page: VirtualPage, asid: Option<u16>)
     match asid {
         Some(number) => {
             if let Some(asid) = Asid::new(number) {
-                pool.remove(asid, page);
+                pool.remove(Place { asid, page });
             }
         }
         None => pool.remove_everywhere(page),

@@ -1,10 +1,10 @@
 //! The words of a pool, as they are written.
-ghost use Rattle.std.specs.Prelude.{◌≡◌, ◌+◌, ◌*◌, ◌<◌, ◌≤◌, true, vec_len, slice_set};
-ghost use Rattle.layout.specs.Tables.{frames as frames_of, next as next_of, names, index, path_of, leaf_table};
-ghost use Rattle.layout.specs.Changes.{cleared, reset as reset_of, naming, taken, grown, built, has_room, dropped};
+ghost use Rattle.std.specs.Prelude.{◌≡◌, ◌+◌, ◌*◌, ◌<◌, ◌≤◌, true, vec_len};
+ghost use Rattle.layout.specs.Tables.{frames as frames_of, next as next_of, names, path_of, leaf_table};
+ghost use Rattle.layout.specs.Changes.{cleared, reset as reset_of, naming, taken, grown, built, has_room};
 ghost use Rattle.layout.specs.Sound.{Sound};
 
-use layout::{Asid, VirtualPage, decode, word};
+use layout::{Place, decode, word};
 
 // The words in a frame.
 pub(crate) const FRAME: usize = 512;
@@ -30,22 +30,6 @@ pub(crate) fn restart(words: &mut Vec<u64>)
 {
     clear(words, 0, NEXT);
     words[NEXT] = 1;
-}
-
-// Clears the root of an ASID.
-pub(crate) fn drop_root(words: &mut Vec<u64>, asid: Asid)
-    requires { 16 ≤ vec_len words.old }
-    ensures { words.new.items ≡ dropped words.old.items asid.number }
-{
-    words[asid.number as usize] = 0;
-}
-
-// Writes the word of a page in the table of leaves at frame `f`.
-pub(crate) fn write_leaf(words: &mut Vec<u64>, f: usize, page: VirtualPage, word: u64)
-    requires { f * 512 + 512 ≤ vec_len words.old }
-    ensures { words.new.items ≡ slice_set words.old.items (f * 512 + index page.number 0) word }
-{
-    words[f * FRAME + page.leaf_index()] = word;
 }
 
 // The word that names a frame at index `i`.
@@ -83,22 +67,21 @@ fn grow(words: &mut Vec<u64>, i: usize) -> usize
     ensures frame { result ≡ names words.new.items i }
     ensures small { result < frames_of words.new.items }
 {
-    let frame = decode(i, word(words, i));
-    if frame != 0 {
-        return frame;
+    match decode(i, word(words, i)) {
+        Some(frame) => frame,
+        None => take(words, i),
     }
-    take(words, i)
 }
 
-// Takes the tables that are missing on the way to the leaf of `page`, and gives the last one.
-pub(crate) fn build(words: &mut Vec<u64>, asid: Asid, page: VirtualPage) -> usize
+// Takes the tables that are missing on the way to the leaf of a page under an ASID, and gives the last one.
+pub(crate) fn build(words: &mut Vec<u64>, place: Place) -> usize
     requires sound { Sound words.old.items }
-    requires room { has_room words.old.items asid.number page.number ≡ true }
-    ensures after { words.new.items ≡ built words.old.items asid.number (path_of page.number) }
-    ensures frame { result ≡ leaf_table words.new.items asid.number page.number }
+    requires room { has_room words.old.items place.asid.number place.page.number ≡ true }
+    ensures after { words.new.items ≡ built words.old.items place.asid.number (path_of place.page.number) }
+    ensures frame { result ≡ leaf_table words.new.items place.asid.number place.page.number }
     ensures inside { result * 512 + 512 ≤ vec_len words.new }
 {
-    let root = grow(words, asid.number as usize);
-    let middle = grow(words, root * FRAME + page.root_index());
-    grow(words, middle * FRAME + page.middle_index())
+    let root = grow(words, place.asid.number as usize);
+    let middle = grow(words, root * FRAME + place.page.index(2));
+    grow(words, middle * FRAME + place.page.index(1))
 }

@@ -6,7 +6,7 @@ ghost use Rattle.leaves.specs.Lookups.{hit};
 ghost use Rattle.shadow.specs.Steps.{learnt, reply_by, after_by};
 
 use access::Access;
-use layout::{Asid, LeafEntry, VirtualPage};
+use layout::{LeafEntry, Place};
 use leaves::{answering, has_some_right, leaf_entry};
 use memory::Memory;
 use pool::Pool;
@@ -22,16 +22,13 @@ fn learn(pool: &mut Pool, grant: Grant)
     if !has_some_right(grant) {
         return;
     }
-    let Some(asid) = Asid::new(grant.asid) else {
-        return;
-    };
-    let Some(page) = VirtualPage::new(grant.page) else {
+    let Some(place) = Place::new(grant.asid, grant.page) else {
         return;
     };
     let leaf = LeafEntry {
         entry: leaf_entry(grant),
     };
-    pool.insert(asid, page, leaf);
+    pool.insert(place, leaf);
 }
 
 // Answers an access from the pool, or by the walk, from which the pool learns.
