@@ -1,6 +1,7 @@
 -- What code that walks, grows and clears the tables step by step needs of the definitions.
-use Rattle.std.proofs.Common.{◌≡◌, ℕ, ◌+◌, ◌*◌, ◌/◌, ◌^◌, ◌<◌, ◌≤◌, min, Bool, true, false, not, eqb, ltb, List, [], ◌∷◌, length, get_or, set, Some, None, Option, is_some, sym, refl, ap, ◌∙◌, inl, inr, arith}
+use Rattle.std.proofs.Common.{◌≡◌, ℕ, ◌+◌, ◌*◌, ◌/◌, ◌^◌, ◌<◌, ◌≤◌, min, Bool, true, false, not, eqb, ltb, List, [], ◌∷◌, ◌++◌, length, get_or, take, set, Some, None, Option, is_some, sym, refl, ap, ◌∙◌, inl, inr, arith}
 use Rattle.std.specs.Int.{from_bool}
+use Rattle.std.proofs.lemmas.List.{take_at}
 use Rattle.std.proofs.lemmas.Bool.{cases_eq, false≢true, and_parts, lt-ltb, ltb-true, leb-true, le-leb, ne_eqb, eq-eqb, cond-true, cond-false}
 use Rattle.entry.specs.declared.entries.Entry.{Entry}
 use Rattle.entry.specs.Entry.{stops, is_pointer, frame_of}
@@ -117,10 +118,10 @@ module _ (pool : List ℕ) (a page : ℕ) (g : Sound pool) (ha : a < 16) (room :
 pub ready_room : (pool p : List ℕ) (a page : ℕ) → Sound pool → p ≡ ready pool a page → has_room p a page ≡ true
 ready_room pool p a page g e = rw e (le-leb _ _ (ready_roomy pool a page g).room)
 
--- the last step of an insertion and of a removal
-pub insert_made : (pool p q : List ℕ) (a page w f k : ℕ) → p ≡ ready pool a page → q ≡ built p a (path_of page) → f ≡ leaf_table q a page → k ≡ index page 0
-    → set q (f * 512 + k) w ≡ inserted pool a page w
-insert_made pool p q a page w f k e d n h = rw (h, n, d, e) refl
+-- the last step of an insertion, where d are the words of the pool made ready, as a slice, and b those with the tables built; and that of a removal
+pub insert_made : (pool p d b past : List ℕ) (n a page w f k : ℕ) → p ≡ ready pool a page → d ≡ p → length d ≡ n → length b ≡ length d → b ≡ built d a (path_of page)
+    → f ≡ leaf_table b a page → k ≡ index page 0 → set (take n (b ++ past)) (f * 512 + k) w ≡ inserted pool a page w
+insert_made pool p d b past n a page w f k e s l m t g h = rw (take_at b past n (m ∙ l), h, g, t, s, e) refl
 
 pub remove_made : (pool : List ℕ) (a page f k : ℕ) → f ≡ leaf_table pool a page → 0 < f → k ≡ index page 0 → set pool (f * 512 + k) 0 ≡ removed pool a page
 remove_made pool a page f k e z h =

@@ -9,7 +9,7 @@ use crate::words::{FRAME, build, restart};
 use layout::{Asid, LeafEntry, Place, VirtualPage};
 
 // The words of the fewest frames that a pool works with: the roots, and the tables of one page.
-const MIN_WORDS: usize = 4 * 512;
+const MIN_WORDS: usize = 4 * FRAME;
 
 impl Pool {
     /// A pool in `words`, which is reset; or the words as they were, where they are fewer than four frames.

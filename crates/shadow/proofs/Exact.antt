@@ -1,5 +1,5 @@
 -- What the steps of a shadow come to on its book.
-use Rattle.std.proofs.Common.{◌≡◌, ℕ, ◌/◌, ◌^◌, ◌<◌, Bool, true, ◌&&◌, eqb, leb, ◌↔◌, List, [], length, Some, None, vec_items, sym, refl, ap, ◌∙◌, subst, inl, inr, arith}
+use Rattle.std.proofs.Common.{◌≡◌, ℕ, ◌/◌, ◌^◌, ◌<◌, Bool, true, ◌&&◌, eqb, leb, ◌↔◌, List, [], length, Some, None, Ok, Err, vec_items, sym, refl, ap, ◌∙◌, subst, inl, inr, arith}
 use Rattle.std.specs.List.{ContainsAt as Has}
 use Rattle.std.proofs.ByRecursion.{all-has}
 use Rattle.std.proofs.lemmas.Bool.{cases_eq, cases_Bool, cond-true, cond-false, lt-ltb, ltb-true, leb-true, eqb-true, and_parts, or_cases}
@@ -13,10 +13,8 @@ use Rattle.pool.proofs.Fields.{sound_of}
 use Rattle.leaves.specs.Leaves.{has_some_right, leaf_word, grant_of}
 use Rattle.leaves.specs.Lookups.{grant_at}
 use Rattle.leaves.proofs.Words.{word_read, word_write, word_fetch, word_user, word_frame, word_leaf}
-use Rattle.shadow.specs.declared.stores.Store.{Store}
-use Rattle.shadow.specs.declared.stores.Store.TheVariants.{Idle, Working}
 use Rattle.shadow.specs.Book.{book_of}
-use Rattle.shadow.specs.Shadows.{grants_of}
+use Rattle.shadow.specs.Shadows.{Store, grants_of}
 use Rattle.shadow.specs.Laws.{KeptByRights, without_global, Filled, FillsExactly, FencesExactly}
 use Rattle.shadow.specs.Books.{some_none, held, book_all, book_has, booked}
 use Rattle.shadow.specs.Fullest.{fullest_canonical, fullest_reads, walked_fullest}
@@ -98,9 +96,9 @@ has_none : (x : Grant) → Has [] x → ⊥
 has_none x h = let l = h.1 in omega arith
 
 pub fences_exactly : FencesExactly
-fences_exactly (Idle words) t f x e =
+fences_exactly (Err words) t f x e =
     subst (λ (y : Store). Has (grants_of y) x ↔ (Has [] x × (covers_grant f x ≡ Bool.false))) (sym e) ((λ h. absurd (has_none x h)), (λ h. absurd (has_none x h.0)))
-fences_exactly (Working pool) (Idle words) f x e = absurd e
-fences_exactly (Working pool) (Working after) f x e =
+fences_exactly (Ok pool) (Err words) f x e = absurd e
+fences_exactly (Ok pool) (Ok after) f x e =
     subst (λ (p : List ℕ). Has (book_of p) x ↔ (Has (book_of (vec_items pool.words)) x × (covers_grant f x ≡ Bool.false))) (sym e)
     (fenced_exactly (vec_items pool.words) (sound_of pool) f.address f.asid x)

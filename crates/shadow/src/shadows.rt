@@ -6,7 +6,6 @@ ghost use Rattle.shadow.specs.Lawful;
 ghost use Rattle.shadow.specs.Lawful.{fences};
 
 use crate::accesses::access_pool;
-use crate::stores::Store;
 use access::Access;
 use leaves::fence_pool;
 use memory::Memory;
@@ -17,68 +16,61 @@ use translator::{Fence, Reply, Translator, walked};
 /// Remembers grants as leaves of Sv39 tables in a pool that it owns; in a pool of fewer than four frames it remembers nothing.
 #[derive(Drop)]
 pub struct Shadow {
-    store: Store,
+    pool: Result<Pool, Vec<u64>>,
 }
 
 impl Shadow {
     /// A shadow over a pool, which is reset; a pool of fewer than four frames is left as it is.
-    pub fn new(pool: Vec<u64>) -> Shadow
-        ensures { MadeOf pool.items result.store }
+    pub fn new(words: Vec<u64>) -> Shadow
+        ensures { MadeOf words.items result.pool }
     {
-        match Pool::new(pool) {
-            Ok(pool) => Shadow {
-                store: Store::Working(pool),
-            },
-            Err(words) => Shadow {
-                store: Store::Idle(words),
-            },
+        Shadow {
+            pool: Pool::new(words),
         }
     }
 
     /// The pool back, as it is.
     pub fn into_pool(self) -> Vec<u64>
-        ensures { result.items ≡ words_of self.store }
+        ensures { result.items ≡ words_of self.pool }
     {
-        match self.store {
-            Store::Idle(words) => words,
-            Store::Working(pool) => pool.into_words(),
+        match self.pool {
+            Ok(pool) => pool.into_words(),
+            Err(words) => words,
         }
     }
 }
 
 impl Translator for Shadow {
-    ghost book = { λ s. grants_of s.store };
+    ghost book = { λ s. grants_of s.pool };
 
-    ghost answers = { λ s w a r t. Answers s.store w a r t.store };
+    ghost answers = { λ s w a r t. Answers s.pool w a r t.pool };
 
-    ghost forgets = { λ s f t. Forgets s.store f t.store };
+    ghost forgets = { λ s f t. Forgets s.pool f t.pool };
 
-    ghost clears = { λ s t. Clears s.store t.store };
+    ghost clears = { λ s t. Clears s.pool t.pool };
 
-    ghost answered = { λ s t w a r e. Lawful.answered s.store t.store w a r e };
+    ghost answered = { λ s t w a r e. Lawful.answered s.pool t.pool w a r e };
 
-    ghost fenced = { λ s t f e. fences s.store t.store f e };
+    ghost fenced = { λ s t f e. fences s.pool t.pool f e };
 
-    ghost cleared = { λ s t e. Lawful.clears s.store t.store e };
+    ghost cleared = { λ s t e. Lawful.clears s.pool t.pool e };
 
     fn access<M: Memory>(&mut self, memory: &M, roots: Roots, access: Access) -> Reply {
-        match &mut self.store {
-            Store::Idle(_) => walked(memory, roots, access),
-            Store::Working(pool) => access_pool(pool, memory, roots, access),
+        match &mut self.pool {
+            Ok(pool) => access_pool(pool, memory, roots, access),
+            Err(_) => walked(memory, roots, access),
         }
     }
 
     fn fence(&mut self, fence: Fence) {
-        match &mut self.store {
-            Store::Idle(_) => {}
-            Store::Working(pool) => fence_pool(pool, fence),
+        if let Ok(pool) = &mut self.pool {
+            fence_pool(pool, fence);
         }
     }
 
     fn host_fence(&mut self) {
-        match &mut self.store {
-            Store::Idle(_) => {}
-            Store::Working(pool) => pool.reset(),
+        if let Ok(pool) = &mut self.pool {
+            pool.reset();
         }
     }
 }

@@ -4,20 +4,17 @@ use Rattle.pool.proofs.words.build.Goals as goal
 
 pub grow-root-requires : goal.grow-root-requires
 grow-root-requires c =
-    let k = c.args.words.now.ok.0 in
     let x = grows_root _ _ c.args.place.page.number c.requires.sound c.args.place.asid.few c.requires.room in
     record { inside = omega arith; fits = x.1; free = x.2 }
 
 pub grow-middle-requires : goal.grow-middle-requires
 grow-middle-requires c =
-    let k = c.grow-root.new.words.ok.0 in
     let r = c.grow-root.ensures in
     let x = grows_middle _ _ c.args.place.page.number c.requires.sound c.args.place.asid.few c.requires.room _ _ _ r.after r.frame c.index.ensures.value in
     record { inside = omega arith; fits = x.1; free = x.2 }
 
 pub grow-requires : goal.grow-requires
 grow-requires c =
-    let k = c.grow-middle.new.words.ok.0 in
     let r = c.grow-root.ensures in
     let m = c.grow-middle.ensures in
     let x = grows_low _ _ c.args.place.page.number c.requires.sound c.args.place.asid.few c.requires.room _ _ _ r.after r.frame c.index.ensures.value
@@ -26,7 +23,6 @@ grow-requires c =
 
 pub returns : goal.returns
 returns c =
-    let k = c.grow.new.words.ok.0 in
     let r = c.grow-root.ensures in
     let m = c.grow-middle.ensures in
     let l = c.grow.ensures in
