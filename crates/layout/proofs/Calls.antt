@@ -2,6 +2,7 @@
 use Rattle.std.proofs.Common.{◌≡◌, ℕ, ◌+◌, ◌*◌, ◌/◌, ◌^◌, ◌<◌, ◌≤◌, min, Bool, true, false, not, eqb, ltb, List, [], ◌∷◌, ◌++◌, length, get_or, take, set, Some, None, Option, is_some, sym, refl, ap, ◌∙◌, inl, inr, arith}
 use Rattle.std.specs.Int.{from_bool}
 use Rattle.std.proofs.lemmas.List.{take_at}
+use Rattle.std.proofs.lemmas.Option.{none-some}
 use Rattle.std.proofs.lemmas.Bool.{cases_eq, false≢true, and_parts, lt-ltb, ltb-true, leb-true, le-leb, ne_eqb, eq-eqb, cond-true, cond-false}
 use Rattle.entry.specs.declared.entries.Entry.{Entry}
 use Rattle.entry.specs.Entry.{stops, is_pointer, frame_of}
@@ -135,8 +136,7 @@ found_small pool a page e g ha c h =
     elim (cases_eq w 0) [
       | inl z ↦
           let y : Some e ≡ None = x ∙ cond-true (eqb w 0) None (Some (record { word = w })) (eq-eqb w 0 z) in
-          let n : ◌≡◌ {A = ℕ} 0 1 = cc in
-          absurd (omega arith)
+          absurd (none-some e (sym y))
       | inr z ↦
           let y : Some e ≡ Some (record { word = w }) = x ∙ cond-false (eqb w 0) None (Some (record { word = w })) (ne_eqb w 0 z) in
           let u : e ≡ record { word = w } = cc in

@@ -1,5 +1,6 @@
 -- What the steps of a shadow come to on its book.
 use Rattle.std.proofs.Common.{◌≡◌, ℕ, ◌/◌, ◌^◌, ◌<◌, Bool, true, ◌&&◌, eqb, leb, ◌↔◌, List, [], length, Some, None, Ok, Err, vec_items, sym, refl, ap, ◌∙◌, subst, inl, inr, arith}
+use Rattle.std.proofs.Math.Bool.{and-true}
 use Rattle.std.specs.List.{ContainsAt as Has}
 use Rattle.std.proofs.ByRecursion.{all-has}
 use Rattle.std.proofs.lemmas.Bool.{cases_eq, cases_Bool, cond-true, cond-false, lt-ltb, ltb-true, leb-true, eqb-true, and_parts, or_cases}
@@ -16,14 +17,10 @@ use Rattle.leaves.proofs.Words.{word_read, word_write, word_fetch, word_user, wo
 use Rattle.shadow.specs.Book.{book_of}
 use Rattle.shadow.specs.Shadows.{Store, grants_of}
 use Rattle.shadow.specs.Laws.{KeptByRights, without_global, Filled, FillsExactly, FencesExactly}
-use Rattle.shadow.specs.Books.{some_none, held, book_all, book_has, booked}
+use Rattle.shadow.specs.Books.{held, book_all, book_has, booked}
 use Rattle.shadow.specs.Fullest.{fullest_canonical, fullest_reads, walked_fullest}
-use Rattle.shadow.specs.Answering.{kept, grant_found}
+use Rattle.shadow.specs.Answering.{kept, grant_found, inserted_holds}
 use Rattle.shadow.specs.Fencing.{fenced_exactly}
-
-and_true : (b c : Bool) → c ≡ true → (b && c) ≡ b
-and_true true c e = e
-and_true Bool.false c e = refl
 
 pub kept_by_rights : KeptByRights
 kept_by_rights w a g root few h =
@@ -35,7 +32,7 @@ kept_by_rights w a g root few h =
     ] in
     let inside = ltb-true g.frame (length w.words / 512) n.path.inside in
     let frame : g.frame < 2 ^ 16 = omega arith in
-    rw (lt-ltb g.asid 16 asid, lt-ltb g.frame (2 ^ 16) frame) (and_true (has_some_right g) true refl)
+    rw (lt-ltb g.asid 16 asid, lt-ltb g.frame (2 ^ 16) frame) (and-true (has_some_right g))
 
 -- the leaf of a grant gives it back
 given_back : (g : Grant) → g.frame < 2 ^ 16 → grant_of g.asid g.page (record { word = leaf_word g }) ≡ without_global g
@@ -53,31 +50,9 @@ fills_exactly pool w g x s f k =
           (book_all p (Filled pool g)
           (λ b q y e.
           let h = held p b q y e in
-          let elsewhere : ((b ≡ g.asid) × (q ≡ g.page) → ⊥) → Filled pool g y = λ ne.
-          let l = law.elsewhere b q h.few ne in
-          elim (cases_Bool (has_room pool g.asid g.page)) [
-            | inl r ↦
-                let same = l ∙ cond-true (has_room pool g.asid g.page) (found pool b q) None r in
-                inr (
-                  book_has pool b q y (grant_found pool b q (found p b q) h.few (sym same) ∙ (sym (grant_found p b q (found p b q) h.few refl) ∙ e)),
-                  (λ z. ne (sym h.asid ∙ z.0, sym h.page ∙ z.1)),
-                  r,
-                )
-            | inr r ↦
-                let none = l ∙ cond-false (has_room pool g.asid g.page) (found pool b q) None r in
-                absurd (some_none y (sym (grant_found p b q None h.few none) ∙ e))
-          ] in
-          elim (cases_eq b g.asid) [
-            | inr ne ↦ elsewhere (λ z. ne z.0)
-            | inl eb ↦
-                elim (cases_eq q g.page) [
-                  | inr ne ↦ elsewhere (λ z. ne z.1)
-                  | inl eq ↦
-                      let here : grant_at p b q ≡ Some (without_global g) = rw (eb, eq) new in
-                      let both = sym e ∙ here in
-                      let is : y ≡ without_global g = cc in
-                      inl is
-                ]
+          elim (inserted_holds pool s w g f m b q y e) [
+            | inl is ↦ inl (is ∙ given_back g m.frame)
+            | inr z ↦ inr (book_has pool b q y z.0, (λ u. z.1 (sym h.asid ∙ u.0, sym h.page ∙ u.1)), z.2)
           ])),
       λ y.
           elim y [
