@@ -6,7 +6,7 @@ use layout::{Asid, Place, VirtualPage};
 use pool::Pool;
 use translator::Fence;
 
-// Clears the leaf of a page, under one ASID or under all.
+// Clears the leaf of a page, under one ASID or under all; an ASID over 15 has no tables.
 fn unmap(pool: &mut Pool, page: VirtualPage, asid: Option<u16>)
     ensures { pool.new.words.items ≡ unmapped pool.old.words.items page.number asid }
 {
@@ -20,7 +20,7 @@ fn unmap(pool: &mut Pool, page: VirtualPage, asid: Option<u16>)
     }
 }
 
-// Clears every leaf, of one ASID or of all.
+// Clears every leaf, of one ASID or of all; an ASID over 15 has no tables.
 fn empty(pool: &mut Pool, asid: Option<u16>)
     ensures { pool.new.words.items ≡ emptied pool.old.words.items asid }
 {

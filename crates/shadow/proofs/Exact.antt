@@ -1,9 +1,9 @@
 -- What the steps of a shadow come to on its book.
-use Rattle.std.proofs.Common.{◌≡◌, ℕ, ◌/◌, ◌^◌, ◌<◌, Bool, true, ◌&&◌, eqb, leb, ◌↔◌, List, [], length, Some, None, Ok, Err, vec_items, sym, refl, ap, ◌∙◌, subst, inl, inr, arith}
+use Rattle.std.proofs.Common.{◌≡◌, ℕ, ◌/◌, ◌^◌, ◌<◌, Bool, ◌&&◌, eqb, leb, ◌↔◌, List, [], length, Some, None, Ok, Err, vec_items, sym, refl, ap, ◌∙◌, subst, inl, inr, arith}
 use Rattle.std.proofs.Math.Bool.{and-true}
 use Rattle.std.specs.List.{ContainsAt as Has}
 use Rattle.std.proofs.ByRecursion.{all-has}
-use Rattle.std.proofs.lemmas.Bool.{cases_eq, cases_Bool, cond-true, cond-false, lt-ltb, ltb-true, leb-true, eqb-true, and_parts, or_cases}
+use Rattle.std.proofs.lemmas.Bool.{cond-true, lt-ltb, ltb-true, leb-true, eqb-true, and_parts, or_cases}
 use Rattle.registers.specs.Registers.{is_paged, asid_of}
 use Rattle.translator.specs.declared.grants.Grant.{Grant}
 use Rattle.translator.specs.Fences.{covers_grant}

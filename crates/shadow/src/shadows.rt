@@ -16,24 +16,24 @@ use translator::{Fence, Reply, Translator, walked};
 /// Remembers grants as leaves of Sv39 tables in a pool that it owns; in a pool of fewer than four frames it remembers nothing.
 #[derive(Drop)]
 pub struct Shadow {
-    pool: Result<Pool, Vec<u64>>,
+    store: Result<Pool, Vec<u64>>,
 }
 
 impl Shadow {
     /// A shadow over a pool, which is reset; a pool of fewer than four frames is left as it is.
-    pub fn new(words: Vec<u64>) -> Shadow
-        ensures { MadeOf words.items result.pool }
+    pub fn new(pool: Vec<u64>) -> Shadow
+        ensures { MadeOf pool.items result.store }
     {
         Shadow {
-            pool: Pool::new(words),
+            store: Pool::new(pool),
         }
     }
 
     /// The pool back, as it is.
     pub fn into_pool(self) -> Vec<u64>
-        ensures { result.items ≡ words_of self.pool }
+        ensures { result.items ≡ words_of self.store }
     {
-        match self.pool {
+        match self.store {
             Ok(pool) => pool.into_words(),
             Err(words) => words,
         }
@@ -41,35 +41,35 @@ impl Shadow {
 }
 
 impl Translator for Shadow {
-    ghost book = { λ s. grants_of s.pool };
+    ghost book = { λ s. grants_of s.store };
 
-    ghost answers = { λ s w a r t. Answers s.pool w a r t.pool };
+    ghost answers = { λ s w a r t. Answers s.store w a r t.store };
 
-    ghost forgets = { λ s f t. Forgets s.pool f t.pool };
+    ghost forgets = { λ s f t. Forgets s.store f t.store };
 
-    ghost clears = { λ s t. Clears s.pool t.pool };
+    ghost clears = { λ s t. Clears s.store t.store };
 
-    ghost answered = { λ s t w a r e. Lawful.answered s.pool t.pool w a r e };
+    ghost answered = { λ s t w a r e. Lawful.answered s.store t.store w a r e };
 
-    ghost fenced = { λ s t f e. fences s.pool t.pool f e };
+    ghost fenced = { λ s t f e. fences s.store t.store f e };
 
-    ghost cleared = { λ s t e. Lawful.clears s.pool t.pool e };
+    ghost cleared = { λ s t e. Lawful.clears s.store t.store e };
 
     fn access<M: Memory>(&mut self, memory: &M, roots: Roots, access: Access) -> Reply {
-        match &mut self.pool {
+        match &mut self.store {
             Ok(pool) => access_pool(pool, memory, roots, access),
             Err(_) => walked(memory, roots, access),
         }
     }
 
     fn fence(&mut self, fence: Fence) {
-        if let Ok(pool) = &mut self.pool {
+        if let Ok(pool) = &mut self.store {
             fence_pool(pool, fence);
         }
     }
 
     fn host_fence(&mut self) {
-        if let Ok(pool) = &mut self.pool {
+        if let Ok(pool) = &mut self.store {
             pool.reset();
         }
     }
