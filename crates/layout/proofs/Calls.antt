@@ -1,10 +1,13 @@
 -- What code that walks, grows and clears the tables step by step needs of the definitions.
-use Rattle.std.proofs.Common.{◌≡◌, ℕ, ◌+◌, ◌*◌, ◌/◌, ◌^◌, ◌<◌, ◌≤◌, min, true, not, eqb, ltb, List, [], ◌∷◌, length, get_or, set, Some, None, sym, refl, ap, ◌∙◌, inl, inr, arith}
-use Rattle.std.proofs.lemmas.Bool.{cases_eq, and_parts, lt-ltb, ltb-true, leb-true, le-leb, ne_eqb, eq-eqb, cond-true, cond-false}
+use Rattle.std.proofs.Common.{◌≡◌, ℕ, ◌+◌, ◌*◌, ◌/◌, ◌^◌, ◌<◌, ◌≤◌, min, Bool, true, false, not, eqb, ltb, List, [], ◌∷◌, ◌++◌, length, get_or, take, set, Some, None, Option, is_some, sym, refl, ap, ◌∙◌, inl, inr, arith}
+use Rattle.std.specs.Int.{from_bool}
+use Rattle.std.proofs.lemmas.List.{take_at}
+use Rattle.std.proofs.lemmas.Option.{none-some}
+use Rattle.std.proofs.lemmas.Bool.{cases_eq, false≢true, and_parts, lt-ltb, ltb-true, leb-true, le-leb, ne_eqb, eq-eqb, cond-true, cond-false}
 use Rattle.entry.specs.declared.entries.Entry.{Entry}
 use Rattle.entry.specs.Entry.{stops, is_pointer, frame_of}
 use Rattle.stages.specs.Stages.{is_canonical}
-use Rattle.layout.specs.Tables.{frames, next, names, below, table, index, path_of, leaf_table}
+use Rattle.layout.specs.Tables.{frames, next, IsFrame, names, below, table, index, path_of, leaf_table}
 use Rattle.layout.specs.Changes.{grown, built, lack_of, missing, has_room, ready, inserted, removed}
 use Rattle.layout.specs.Sound.{is_leaf, Sound}
 use Rattle.layout.specs.Finds.{found}
@@ -30,6 +33,16 @@ module _ (pool : List ℕ) (a page k2 k1 f2 f1 f0 : ℕ) (ha : a < 16) (e2 : f2 
   pub counts : (m2 m1 m0 : ℕ) → m2 ≡ lack_of f2 → m1 ≡ lack_of f1 → m0 ≡ lack_of f0 → m0 + (m1 + m2) ≡ missing pool a (path_of page)
   unfolding missing table
   counts m2 m1 m0 c2 c1 c0 = rw (c0, c1, c2, e0, e1, root, h1, h2) refl
+
+-- a table that is there, or not, counted
+pub lack_of-table : (f : ℕ) → 0 < f → lack_of f ≡ 0
+lack_of-table f h = cond-false (eqb f 0) 1 0 (ne_eqb f 0 (λ e. omega arith))
+
+pub lack_of-frame : (n : ℕ) (frame : Option ℕ) (none : Bool) → IsFrame n frame → is_some frame ≡ not none → from_bool none ≡ lack_of n
+lack_of-frame n None true h e = sym (cond-true (eqb n 0) 1 0 (eq-eqb n 0 h))
+lack_of-frame n None false h e = absurd (false≢true e)
+lack_of-frame n (Some f) true h e = absurd (false≢true (sym e))
+lack_of-frame n (Some f) false h e = sym (lack_of-table n (omega arith))
 
 -- what a call that grows word i needs
 abbrev pub Grows : List ℕ → ℕ → Type 0
@@ -106,17 +119,14 @@ module _ (pool : List ℕ) (a page : ℕ) (g : Sound pool) (ha : a < 16) (room :
 pub ready_room : (pool p : List ℕ) (a page : ℕ) → Sound pool → p ≡ ready pool a page → has_room p a page ≡ true
 ready_room pool p a page g e = rw e (le-leb _ _ (ready_roomy pool a page g).room)
 
--- the last step of an insertion and of a removal
-pub insert_made : (pool p q r : List ℕ) (a page w f : ℕ) → p ≡ ready pool a page → q ≡ built p a (path_of page) → f ≡ leaf_table q a page
-    → r ≡ set q (f * 512 + index page 0) w → r ≡ inserted pool a page w
-insert_made pool p q r a page w f e d n h = h ∙ rw (n, d, e) refl
+-- the last step of an insertion, where d are the words of the pool made ready, as a slice, and b those with the tables built; and that of a removal
+pub insert_made : (pool p d b past : List ℕ) (n a page w f k : ℕ) → p ≡ ready pool a page → d ≡ p → length d ≡ n → length b ≡ length d → b ≡ built d a (path_of page)
+    → f ≡ leaf_table b a page → k ≡ index page 0 → set (take n (b ++ past)) (f * 512 + k) w ≡ inserted pool a page w
+insert_made pool p d b past n a page w f k e s l m t g h = rw (take_at b past n (m ∙ l), h, g, t, s, e) refl
 
-pub remove_none : (pool : List ℕ) (a page f : ℕ) → f ≡ leaf_table pool a page → f ≡ 0 → pool ≡ removed pool a page
-remove_none pool a page f e z = sym (cond-true (eqb (leaf_table pool a page) 0) pool _ (eq-eqb (leaf_table pool a page) 0 (sym e ∙ z)))
-
-pub remove_made : (pool r : List ℕ) (a page f : ℕ) → f ≡ leaf_table pool a page → (f ≡ 0 → ⊥) → r ≡ set pool (f * 512 + index page 0) 0 → r ≡ removed pool a page
-remove_made pool r a page f e z h =
-    h ∙ rw e (sym (cond-false (eqb (leaf_table pool a page) 0) pool _ (ne_eqb (leaf_table pool a page) 0 (λ x. z (e ∙ x)))))
+pub remove_made : (pool : List ℕ) (a page f k : ℕ) → f ≡ leaf_table pool a page → 0 < f → k ≡ index page 0 → set pool (f * 512 + k) 0 ≡ removed pool a page
+remove_made pool a page f k e z h =
+    rw (h, e) (sym (cond-false (eqb (leaf_table pool a page) 0) pool _ (ne_eqb (leaf_table pool a page) 0 (λ x. omega arith))))
 
 -- what is found is a leaf of a frame of 16 bits
 pub found_small : (pool : List ℕ) (a page : ℕ) (e : Entry) → Sound pool → a < 16 → is_canonical page ≡ true → Some e ≡ found pool a page → frame_of e.word < 2 ^ 16
@@ -126,8 +136,7 @@ found_small pool a page e g ha c h =
     elim (cases_eq w 0) [
       | inl z ↦
           let y : Some e ≡ None = x ∙ cond-true (eqb w 0) None (Some (record { word = w })) (eq-eqb w 0 z) in
-          let n : ◌≡◌ {A = ℕ} 0 1 = cc in
-          absurd (omega arith)
+          absurd (none-some e (sym y))
       | inr z ↦
           let y : Some e ≡ Some (record { word = w }) = x ∙ cond-false (eqb w 0) None (Some (record { word = w })) (ne_eqb w 0 z) in
           let u : e ≡ record { word = w } = cc in

@@ -1,6 +1,6 @@
 -- A frame taken for a table: what each word then holds and names.
-use Rattle.std.proofs.Common.{◌≡◌, ℕ, zero, suc, ◌+◌, ◌*◌, ◌/◌, ◌%◌, ◌<◌, ◌≤◌, min, eqb, ◌≢◌, ◌⊎◌, List, length, get_or, set, sym, refl, ap, ◌∙◌, inl, inr, arith}
-use Rattle.std.proofs.lemmas.List.{length-set, get_or-set_same, get_or-set_other}
+use Rattle.std.proofs.Common.{◌≡◌, ℕ, zero, suc, ◌+◌, ◌*◌, ◌/◌, ◌%◌, ◌<◌, ◌≤◌, min, eqb, ◌-◌, ◌≢◌, ◌⊎◌, List, ◌++◌, length, get_or, take, drop, replicate, set, length-append, length-drop, length-take-le, sym, refl, ap, ◌∙◌, inl, inr, arith}
+use Rattle.std.proofs.lemmas.List.{length-set, length-replicate, get_or-set_same, get_or-set_other, get_or_append_left, get_or-append_right, get_or-take, get_or-drop, get_or-replicate, ext_get_or}
 use Rattle.std.proofs.lemmas.Bool.Decides.{nat_tests}
 use Rattle.std.proofs.lemmas.Bool.{cases_eq, cases_lt, cases_Bool, cond-true, eq-eqb}
 use Rattle.layout.specs.Tables.{frames, next, named, names}
@@ -39,6 +39,42 @@ cleared_in pool at (suc k) j r l h =
       | inl e ↦ rw e (get_or-set_same (cleared pool at k) (at + k) 0 0 (omega (arith, length_cleared pool at k)))
       | inr e ↦ get_or-set_other (cleared pool at k) (at + k) j 0 0 e ∙ cleared_in pool at k j (omega arith) l (omega arith)
     ]
+
+-- words from `at` on filled with zeros
+module _ (pool : List ℕ) (at k : ℕ) (h : at + k ≤ length pool) where
+  filled : List ℕ
+  filled = take at pool ++ (replicate k 0 ++ drop k (drop at pool))
+
+  filled_word : (i : ℕ) → get_or filled i 0 ≡ get_or (cleared pool at k) i 0
+  unfolding filled
+  filled_word i =
+      let l = length-take-le at pool (omega arith) in
+      elim (cases_lt i at) [
+        | inl x ↦ get_or_append_left (take at pool) _ 0 i (omega arith) ∙ get_or-take at pool i 0 x ∙ sym (cleared_out pool at k i (inl x))
+        | inr x ↦
+            get_or-append_right (take at pool) _ at i 0 l x
+            ∙ elim (cases_lt i (at + k)) [
+              | inl y ↦
+                  get_or_append_left (replicate k 0) _ 0 (i - at) (omega (arith, length-replicate {A = ℕ} k 0)) ∙ get_or-replicate k (i - at) 0 0 (omega arith)
+                  ∙ sym (cleared_in pool at k i h x y)
+              | inr y ↦
+                  let e : at + (k + (i - at - k)) ≡ i = omega arith in
+                  get_or-append_right (replicate k 0) _ k (i - at) 0 (length-replicate {A = ℕ} k 0) (omega arith)
+                  ∙ get_or-drop k (drop at pool) (i - at - k) 0 ∙ get_or-drop at pool (k + (i - at - k)) 0
+                  ∙ ap (λ n. get_or pool n 0) e ∙ sym (cleared_out pool at k i (inr y))
+            ]
+      ]
+
+  filled_length : length filled ≡ length (cleared pool at k)
+  unfolding filled
+  filled_length =
+      let t = length-take-le at pool (omega arith) in
+      let e : at + (k + (length pool - at - k)) ≡ length pool = omega arith in
+      simp (length-append, length-replicate, length-drop, t, length_cleared) e
+
+  pub filled_cleared : (zs : List ℕ) → zs ≡ replicate k 0 → take at pool ++ (zs ++ drop k (drop at pool)) ≡ cleared pool at k
+  unfolding filled
+  filled_cleared zs e = rw e (ext_get_or 0 filled (cleared pool at k) filled_length (λ i l. filled_word i))
 
 pub named_zero : (i : ℕ) → named i 0 ≡ 0
 named_zero i = grind (arith, nat_tests)

@@ -3,7 +3,7 @@
 -- A pool is cut into frames of 512 words; at most its first 512 whole frames are used.
 -- Words 0 to 15 hold the frame of the root table of each ASID, 0 for none. Word 16 holds the next unused frame. Each table fills one frame.
 -- A path is the list of the indices that lead from a root table to another table, the last one first.
-use Rattle.std.specs.Prelude.{ℕ, ◌+◌, ◌*◌, ◌/◌, ◌%◌, min, cond, List, [], ◌∷◌, length, ◌==◌, nat_lt, slice_index}
+use Rattle.std.specs.Prelude.{ℕ, ◌+◌, ◌*◌, ◌/◌, ◌%◌, ◌≡◌, ◌<◌, min, cond, List, [], ◌∷◌, length, Option, MatchOption, ◌==◌, nat_lt, slice_index}
 use Rattle.table.specs.Walk.{index_of}
 
 -- the number of frames that are used
@@ -17,6 +17,10 @@ next pool = slice_index pool 16
 -- the frame that the word w at index i names: the number of a root table, or the frame of a pointer, whose only flag is V; 0 for none
 abbrev pub named : ℕ → ℕ → ℕ
 named i w = cond (nat_lt i 16) w (cond (w % 1024 == 1) (w / 1024) 0)
+
+-- the frame of this number: 0 is that of none
+abbrev pub IsFrame : ℕ → Option ℕ → Type 0
+IsFrame n frame = MatchOption frame (n ≡ 0) (λ f. (f ≡ n) × (0 < f))
 
 abbrev pub names : List ℕ → ℕ → ℕ
 names pool i = named i (slice_index pool i)

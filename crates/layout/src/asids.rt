@@ -9,7 +9,7 @@ pub struct Asid {
 }
 
 impl Asid {
-    /// The ASID of this number, if there is one.
+    /// The ASID of this number, if there is one. As `new` of std's numbers that are not 0, it gives an `Option`: an error could say no more than that there is no such ASID.
     pub fn new(number: u16) -> Option<Asid>
         ensures { MatchOption result (16 ≤ number) (λ asid. asid.number ≡ number) }
     {

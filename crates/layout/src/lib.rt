@@ -5,6 +5,7 @@ mod asids;
 mod checks;
 mod leaves;
 mod pages;
+mod asid_pages;
 mod sources;
 mod words;
 
@@ -12,5 +13,6 @@ pub use asids::Asid;
 pub use checks::check_pool;
 pub use leaves::LeafEntry;
 pub use pages::VirtualPage;
+pub use asid_pages::AsidPage;
 pub use sources::OutsidePool;
 pub use words::{decode, word};

@@ -3,6 +3,8 @@ ghost use Rattle.std.specs.Prelude.{◌≡◌, ◌<◌, true, false, MatchOption
 ghost use Rattle.stages.specs.Stages.{is_canonical};
 ghost use Rattle.layout.specs.Tables.{index};
 
+use entry::field;
+
 /// The number of a canonical page: bits 63 to 39 of its addresses equal bit 38.
 #[derive(Clone, Copy)]
 pub struct VirtualPage {
@@ -11,7 +13,7 @@ pub struct VirtualPage {
 }
 
 impl VirtualPage {
-    /// The page of this number, if it is canonical.
+    /// The page of this number, if it is canonical. As `new` of std's numbers that are not 0, it gives an `Option`: an error could say no more than that there is no such page.
     pub fn new(number: u64) -> Option<VirtualPage>
         ensures { MatchOption result (is_canonical number ≡ false) (λ page. page.number ≡ number) }
     {
@@ -23,27 +25,11 @@ impl VirtualPage {
         }
     }
 
-    /// Its index in a root table.
-    pub fn root_index(self) -> usize
-        ensures value { result ≡ index self.number 2 }
+    /// Its index in a table of this level: a table of leaves has level 0, a root table level 2.
+    pub fn index(self, level: u8) -> usize
+        ensures value { result ≡ index self.number level }
         ensures small { result < 512 }
     {
-        (self.number / 0x4_0000 % 512) as usize
-    }
-
-    /// Its index in a table of level 1.
-    pub fn middle_index(self) -> usize
-        ensures value { result ≡ index self.number 1 }
-        ensures small { result < 512 }
-    {
-        (self.number / 512 % 512) as usize
-    }
-
-    /// Its index in a table of leaves.
-    pub fn leaf_index(self) -> usize
-        ensures value { result ≡ index self.number 0 }
-        ensures small { result < 512 }
-    {
-        (self.number % 512) as usize
+        field(self.number, 9 * u32::from(level), 9) as usize
     }
 }

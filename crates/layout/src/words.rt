@@ -1,6 +1,6 @@
 //! Words of a pool, as they are read.
 ghost use Rattle.std.specs.Prelude.{◌≡◌, slice_index};
-ghost use Rattle.layout.specs.Tables.{named};
+ghost use Rattle.layout.specs.Tables.{IsFrame, named};
 
 // The roots are the words before this index.
 const ROOTS: usize = 16;
@@ -9,18 +9,25 @@ const ROOTS: usize = 16;
 pub fn word(words: &[u64], i: usize) -> u64
     ensures { result ≡ slice_index words.now i }
 {
-    if i < words.len() { words[i] } else { 0 }
+    words.get(i).copied().unwrap_or(0)
 }
 
-/// The frame that `word` names at index `i`, or 0.
-pub fn decode(i: usize, word: u64) -> usize
-    ensures { result ≡ named i word }
+// The frame of this number; no table lies in frame 0.
+fn frame(number: u64) -> Option<usize>
+    ensures { IsFrame number result }
+{
+    (number != 0).then_some(number as usize)
+}
+
+/// The frame that `word` names at index `i`, if it names one.
+pub fn decode(i: usize, word: u64) -> Option<usize>
+    ensures { IsFrame (named i word) result }
 {
     if i < ROOTS {
-        word as usize
+        frame(word)
     } else if word % 1024 == 1 {
-        (word / 1024) as usize
+        frame(word / 1024)
     } else {
-        0
+        None
     }
 }

@@ -1,9 +1,10 @@
 //! Grants as leaf entries.
-ghost use Rattle.std.specs.Prelude.{◌≡◌, ◌^◌, ◌<◌, ◌≤◌};
+ghost use Rattle.std.specs.Prelude.{◌≡◌, ◌^◌, ◌<◌};
 ghost use Rattle.entry.specs.Entry.{frame_of};
-ghost use Rattle.leaves.specs.Leaves.{has_some_right, one as one_of, leaf_word, grant_of};
+ghost use Rattle.leaves.specs.Leaves.{has_some_right, leaf_word, grant_of};
 
 use entry::Entry;
+use layout::AsidPage;
 use translator::Grant;
 
 /// Whether the grant has a right at all.
@@ -13,36 +14,28 @@ pub fn has_some_right(grant: Grant) -> bool
     grant.read || grant.write || grant.fetch
 }
 
-// A flag as a number.
-fn one(flag: bool) -> u64
-    ensures value { result ≡ one_of flag }
-    ensures small { result ≤ 1 }
-{
-    if flag { 1 } else { 0 }
-}
-
 /// The leaf entry of a grant: V, A and D, its rights, its U and its frame.
 pub fn leaf_entry(grant: Grant) -> Entry
     ensures { result.word ≡ leaf_word grant }
 {
-    let frame = 1024 * grant.frame as u64;
-    let user = 16 * one(grant.user);
-    let fetch = 8 * one(grant.fetch);
-    let write = 4 * one(grant.write);
-    let read = 2 * one(grant.read);
+    let frame = 1024 * u64::from(grant.frame);
+    let user = 16 * u64::from(grant.user);
+    let fetch = 8 * u64::from(grant.fetch);
+    let write = 4 * u64::from(grant.write);
+    let read = 2 * u64::from(grant.read);
     Entry {
         word: 193 + (read + (write + (fetch + (user + frame)))),
     }
 }
 
 // The grant that a leaf entry gives for a page under an ASID.
-pub(crate) fn grant_of(asid: u16, page: u64, entry: Entry) -> Grant
+pub(crate) fn grant_of(place: AsidPage, entry: Entry) -> Grant
     requires { frame_of entry.word < 2 ^ 16 }
-    ensures { result ≡ grant_of asid page entry }
+    ensures { result ≡ grant_of place.asid.number place.page.number entry }
 {
     Grant {
-        asid,
-        page,
+        asid: place.asid.number,
+        page: place.page.number,
         frame: entry.frame().number as u16,
         read: entry.is_readable(),
         write: entry.is_writable(),

@@ -2,25 +2,25 @@
 ghost use Rattle.std.specs.Prelude.{◌≡◌};
 ghost use Rattle.leaves.specs.Fences.{unmapped, emptied, fenced};
 
-use layout::{Asid, VirtualPage};
+use layout::{Asid, AsidPage, VirtualPage};
 use pool::Pool;
 use translator::Fence;
 
-// Clears the leaf of a page, under one ASID or under all.
+// Clears the leaf of a page, under one ASID or under all; an ASID over 15 has no tables.
 fn unmap(pool: &mut Pool, page: VirtualPage, asid: Option<u16>)
     ensures { pool.new.words.items ≡ unmapped pool.old.words.items page.number asid }
 {
     match asid {
         Some(number) => {
             if let Some(asid) = Asid::new(number) {
-                pool.remove(asid, page);
+                pool.remove(AsidPage { asid, page });
             }
         }
         None => pool.remove_everywhere(page),
     }
 }
 
-// Clears every leaf, of one ASID or of all.
+// Clears every leaf, of one ASID or of all; an ASID over 15 has no tables.
 fn empty(pool: &mut Pool, asid: Option<u16>)
     ensures { pool.new.words.items ≡ emptied pool.old.words.items asid }
 {

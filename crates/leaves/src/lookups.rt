@@ -4,7 +4,7 @@ ghost use Rattle.leaves.specs.Lookups.{grant_at, hit};
 
 use crate::entries::grant_of;
 use access::Access;
-use layout::{Asid, VirtualPage};
+use layout::AsidPage;
 use pool::Pool;
 use registers::GuestRoot;
 use translator::Grant;
@@ -13,10 +13,9 @@ use translator::Grant;
 fn grant_at(pool: &Pool, asid: u16, page: u64) -> Option<Grant>
     ensures { result ≡ grant_at pool.now.words.items asid page }
 {
-    let root = Asid::new(asid)?;
-    let canonical = VirtualPage::new(page)?;
-    let entry = pool.find(root, canonical)?;
-    Some(grant_of(asid, page, entry))
+    let place = AsidPage::new(asid, page)?;
+    let entry = pool.find(place)?;
+    Some(grant_of(place, entry))
 }
 
 /// The grant that answers the access, if one does.
@@ -28,9 +27,5 @@ pub fn answering(pool: &Pool, root: GuestRoot, access: Access) -> Option<Grant>
     }
     let _table = root.table()?;
     let grant = grant_at(pool, root.asid(), access.address >> 12)?;
-    if grant.allows(access) {
-        Some(grant)
-    } else {
-        None
-    }
+    grant.allows(access).then_some(grant)
 }

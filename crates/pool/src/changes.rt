@@ -5,11 +5,11 @@ ghost use Rattle.layout.specs.Changes.{reset as reset_of, ready, inserted, remov
 ghost use Rattle.layout.specs.Laws.{Inserts, Removes, RemovesEverywhere, Drops, Resets, LeavesApart, RestKept};
 
 use crate::pools::Pool;
-use crate::words::{build, drop_root, restart, write_leaf};
-use layout::{Asid, LeafEntry, VirtualPage};
+use crate::words::{FRAME, build, restart};
+use layout::{Asid, LeafEntry, AsidPage, VirtualPage};
 
 // The words of the fewest frames that a pool works with: the roots, and the tables of one page.
-const MIN_WORDS: usize = 4 * 512;
+const MIN_WORDS: usize = 4 * FRAME;
 
 impl Pool {
     /// A pool in `words`, which is reset; or the words as they were, where they are fewer than four frames.
@@ -33,38 +33,35 @@ impl Pool {
     }
 
     // Makes room for the tables that are missing: resets the pool where too few frames are unused.
-    fn prepare(&mut self, asid: Asid, page: VirtualPage)
-        ensures { self.new.words.items ≡ ready self.old.words.items asid.number page.number }
+    fn prepare(&mut self, place: AsidPage)
+        ensures { self.new.words.items ≡ ready self.old.words.items place.asid.number place.page.number }
     {
-        if self.has_room(asid, page) {
-            return;
+        if !self.has_room(place) {
+            self.reset();
         }
-        self.reset();
     }
 
     /// Puts in the leaf of a page under an ASID, and takes the tables that are missing.
-    pub fn insert(&mut self, asid: Asid, page: VirtualPage, leaf: LeafEntry)
-        ensures after { self.new.words.items ≡ inserted self.old.words.items asid.number page.number leaf.entry.word }
-        ensures law { Inserts self.old.words.items asid.number page.number leaf.entry.word }
+    pub fn insert(&mut self, place: AsidPage, leaf: LeafEntry)
+        ensures after { self.new.words.items ≡ inserted self.old.words.items place.asid.number place.page.number leaf.entry.word }
+        ensures law { Inserts self.old.words.items place.asid.number place.page.number leaf.entry.word }
         ensures rest { RestKept self.old.words.items self.new.words.items }
         ensures apart { LeavesApart self.new.words.items }
     {
-        self.prepare(asid, page);
-        let low = build(&mut self.words, asid, page);
-        write_leaf(&mut self.words, low, page, leaf.entry.word);
+        self.prepare(place);
+        let low = build(&mut self.words, place);
+        self.words[low * FRAME + place.page.index(0)] = leaf.entry.word;
     }
 
     /// Clears the leaf of a page under an ASID, where its table is there.
-    pub fn remove(&mut self, asid: Asid, page: VirtualPage)
-        ensures after { self.new.words.items ≡ removed self.old.words.items asid.number page.number }
-        ensures law { Removes self.old.words.items asid.number page.number }
+    pub fn remove(&mut self, place: AsidPage)
+        ensures after { self.new.words.items ≡ removed self.old.words.items place.asid.number place.page.number }
+        ensures law { Removes self.old.words.items place.asid.number place.page.number }
         ensures rest { RestKept self.old.words.items self.new.words.items }
     {
-        let low = self.leaf_table(asid, page);
-        if low == 0 {
-            return;
+        if let Some(low) = self.leaf_table(place) {
+            self.words[low * FRAME + place.page.index(0)] = 0;
         }
-        write_leaf(&mut self.words, low, page, 0);
     }
 
     /// Clears the leaf of a page under every ASID.
@@ -74,7 +71,8 @@ impl Pool {
         ensures rest { RestKept self.old.words.items self.new.words.items }
     {
         for number in 0..16 {
-            self.remove(Asid { number }, page);
+            let asid = Asid { number };
+            self.remove(AsidPage { asid, page });
         }
     }
 
@@ -84,6 +82,6 @@ impl Pool {
         ensures law { Drops self.old.words.items asid.number }
         ensures rest { RestKept self.old.words.items self.new.words.items }
     {
-        drop_root(&mut self.words, asid);
+        self.words[asid.number as usize] = 0;
     }
 }

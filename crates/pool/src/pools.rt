@@ -4,6 +4,9 @@ ghost use Rattle.layout.specs.Tables.{frames, next};
 ghost use Rattle.layout.specs.Sound.{Inside, Apart, Shaped};
 
 /// A pool of at least four frames, with the tables in them.
+///
+/// Tables are frames of one `Vec`, named by their numbers: the layout of these words is a rule of the project, since callers read
+/// them back. Words 0 to 15 hold the roots, word 16 the next unused frame, and at most 512 whole frames of 512 words are used.
 #[derive(Drop)]
 pub struct Pool {
     pub(crate) words: Vec<u64>,

@@ -1,22 +1,14 @@
 //! What a pool has, read word by word.
-ghost use Rattle.std.specs.Prelude.{◌≡◌, ◌<◌, ◌≤◌, slice_index};
-ghost use Rattle.layout.specs.Tables.{frames as frames_of, next as next_of, names, below as below_of, path_of, leaf_table};
-ghost use Rattle.layout.specs.Changes.{lack_of, missing as missing_of, has_room};
+ghost use Rattle.std.specs.Prelude.{◌≡◌, ◌<◌, ◌≤◌, IfSome, slice_index};
+ghost use Rattle.layout.specs.Tables.{frames as frames_of, next as next_of, IsFrame, names, below as below_of, path_of, leaf_table};
+ghost use Rattle.layout.specs.Changes.{missing as missing_of, has_room};
 
 use crate::pools::Pool;
 use crate::words::{FRAME, NEXT};
-use layout::{Asid, VirtualPage, decode, word};
+use layout::{Asid, AsidPage, decode, word};
 
 // The most frames that are used.
 const MAX_FRAMES: usize = 512;
-
-// 1 for a table that is missing.
-fn lack(frame: usize) -> usize
-    ensures value { result ≡ lack_of frame }
-    ensures small { result ≤ 1 }
-{
-    if frame == 0 { 1 } else { 0 }
-}
 
 impl Pool {
     /// The words back, as they are.
@@ -27,12 +19,13 @@ impl Pool {
         words
     }
 
-    // The frame of the root table of an ASID, or 0.
-    pub(crate) fn root(&self, asid: Asid) -> usize
-        ensures value { result ≡ slice_index self.now.words.items asid.number }
-        ensures small { result < next_of self.now.words.items }
+    // The frame of the root table of an ASID, if it has one.
+    pub(crate) fn root(&self, asid: Asid) -> Option<usize>
+        ensures value { IsFrame (slice_index self.now.words.items asid.number) result }
+        ensures small { IfSome result (λ frame. frame < next_of self.now.words.items) }
     {
-        word(&self.words, asid.number as usize) as usize
+        let i = asid.number as usize;
+        decode(i, word(&self.words, i))
     }
 
     // The next unused frame.
@@ -50,45 +43,45 @@ impl Pool {
         (self.words.len() / FRAME).min(MAX_FRAMES)
     }
 
-    // The frame of the table that entry `k` of the table at frame `f` names, or 0.
-    fn below(&self, f: usize, k: usize) -> usize
-        requires f { f < next_of self.now.words.items }
+    // The frame of the table that entry `k` of the table at frame `f` names, if it names one.
+    fn below(&self, f: usize, k: usize) -> Option<usize>
+        requires f { (0 < f) × (f < next_of self.now.words.items) }
         requires k { k < 512 }
-        ensures value { result ≡ below_of (names self.now.words.items) f k }
-        ensures small { result < next_of self.now.words.items }
+        ensures value { IsFrame (below_of (names self.now.words.items) f k) result }
+        ensures small { IfSome result (λ frame. frame < next_of self.now.words.items) }
     {
-        if f == 0 {
-            return 0;
-        }
         let i = f * FRAME + k;
         decode(i, word(&self.words, i))
     }
 
-    /// The frame of the table that has the leaf of `page`, or 0.
-    pub fn leaf_table(&self, asid: Asid, page: VirtualPage) -> usize
-        ensures value { result ≡ leaf_table self.now.words.items asid.number page.number }
-        ensures small { result < next_of self.now.words.items }
+    /// The frame of the table that has the leaf of a page under an ASID, if that table is there.
+    pub fn leaf_table(&self, place: AsidPage) -> Option<usize>
+        ensures value { IsFrame (leaf_table self.now.words.items place.asid.number place.page.number) result }
+        ensures small { IfSome result (λ frame. frame < next_of self.now.words.items) }
     {
-        let root = self.root(asid);
-        let middle = self.below(root, page.root_index());
-        self.below(middle, page.middle_index())
+        let root = self.root(place.asid)?;
+        let middle = self.below(root, place.page.index(2))?;
+        self.below(middle, place.page.index(1))
     }
 
-    // How many tables are missing on the way to the leaf of `page`.
-    fn missing(&self, asid: Asid, page: VirtualPage) -> usize
-        ensures value { result ≡ missing_of self.now.words.items asid.number (path_of page.number) }
+    // How many tables are missing on the way to the leaf of a page under an ASID.
+    fn missing(&self, place: AsidPage) -> usize
+        ensures value { result ≡ missing_of self.now.words.items place.asid.number (path_of place.page.number) }
         ensures small { result ≤ 3 }
     {
-        let root = self.root(asid);
-        let middle = self.below(root, page.root_index());
-        let low = self.below(middle, page.middle_index());
-        lack(low) + (lack(middle) + lack(root))
+        let Some(root) = self.root(place.asid) else {
+            return 3;
+        };
+        let Some(middle) = self.below(root, place.page.index(2)) else {
+            return 2;
+        };
+        usize::from(self.below(middle, place.page.index(1)).is_none())
     }
 
-    /// Whether enough frames are unused for the tables that are missing on the way to the leaf of `page`.
-    pub fn has_room(&self, asid: Asid, page: VirtualPage) -> bool
-        ensures { result ≡ has_room self.now.words.items asid.number page.number }
+    /// Whether enough frames are unused for the tables that are missing on the way to the leaf of a page under an ASID.
+    pub fn has_room(&self, place: AsidPage) -> bool
+        ensures { result ≡ has_room self.now.words.items place.asid.number place.page.number }
     {
-        self.next() + self.missing(asid, page) <= self.frames()
+        self.next() + self.missing(place) <= self.frames()
     }
 }

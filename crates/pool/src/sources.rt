@@ -2,6 +2,7 @@
 ghost use Rattle.layout.specs.Finds.{pool_reads};
 
 use crate::pools::Pool;
+use crate::words::FRAME;
 use entry::Frame;
 use layout::OutsidePool;
 use table::TableSource;
@@ -12,11 +13,7 @@ impl TableSource for Pool {
     ghost reads = { λ s. pool_reads s.words.items };
 
     fn read(&self, frame: Frame, index: u16) -> Result<u64, OutsidePool> {
-        let at = frame.number * 512 + index as u64;
-        if at < self.words.len() as u64 {
-            Ok(self.words[at as usize])
-        } else {
-            Err(OutsidePool)
-        }
+        let at = frame.number as usize * FRAME + usize::from(index);
+        self.words.get(at).copied().ok_or(OutsidePool)
     }
 }

@@ -1,10 +1,13 @@
 //! The words of a pool, as they are written.
-ghost use Rattle.std.specs.Prelude.{◌≡◌, ◌+◌, ◌*◌, ◌<◌, ◌≤◌, true, vec_len, slice_set};
-ghost use Rattle.layout.specs.Tables.{frames as frames_of, next as next_of, names, index, path_of, leaf_table};
-ghost use Rattle.layout.specs.Changes.{cleared, reset as reset_of, naming, taken, grown, built, has_room, dropped};
+//!
+//! These functions take the words alone and say what they need of them. As methods of `Pool` they would have to keep its
+//! ghost fields after each table, which one lemma now gives for a whole insertion; and `new` restarts words that are no pool yet.
+ghost use Rattle.std.specs.Prelude.{◌≡◌, ◌+◌, ◌*◌, ◌<◌, ◌≤◌, true, length};
+ghost use Rattle.layout.specs.Tables.{frames as frames_of, next as next_of, names, path_of, leaf_table};
+ghost use Rattle.layout.specs.Changes.{cleared, reset as reset_of, naming, taken, grown, built, has_room};
 ghost use Rattle.layout.specs.Sound.{Sound};
 
-use layout::{Asid, VirtualPage, decode, word};
+use layout::{AsidPage, decode, word};
 
 // The words in a frame.
 pub(crate) const FRAME: usize = 512;
@@ -13,39 +16,20 @@ pub(crate) const FRAME: usize = 512;
 pub(crate) const NEXT: usize = 16;
 
 // Sets `count` words from `start` on to 0.
-fn clear(words: &mut Vec<u64>, start: usize, count: usize)
-    requires { start + count ≤ vec_len words.old }
-    ensures after { words.new.items ≡ cleared words.old.items start count }
-    ensures long { vec_len words.new ≡ vec_len words.old }
+fn clear(words: &mut [u64], start: usize, count: usize)
+    requires { start + count ≤ length words.old }
+    ensures { words.new ≡ cleared words.old start count }
 {
-    for k in 0..count {
-        words[start + k] = 0;
-    }
+    words[start..start + count].fill(0);
 }
 
 // Clears every root, and makes frame 1 the next unused one.
-pub(crate) fn restart(words: &mut Vec<u64>)
-    requires { 16 < vec_len words.old }
-    ensures { words.new.items ≡ reset_of words.old.items }
+pub(crate) fn restart(words: &mut [u64])
+    requires { 16 < length words.old }
+    ensures { words.new ≡ reset_of words.old }
 {
     clear(words, 0, NEXT);
     words[NEXT] = 1;
-}
-
-// Clears the root of an ASID.
-pub(crate) fn drop_root(words: &mut Vec<u64>, asid: Asid)
-    requires { 16 ≤ vec_len words.old }
-    ensures { words.new.items ≡ dropped words.old.items asid.number }
-{
-    words[asid.number as usize] = 0;
-}
-
-// Writes the word of a page in the table of leaves at frame `f`.
-pub(crate) fn write_leaf(words: &mut Vec<u64>, f: usize, page: VirtualPage, word: u64)
-    requires { f * 512 + 512 ≤ vec_len words.old }
-    ensures { words.new.items ≡ slice_set words.old.items (f * 512 + index page.number 0) word }
-{
-    words[f * FRAME + page.leaf_index()] = word;
 }
 
 // The word that names a frame at index `i`.
@@ -61,11 +45,11 @@ fn encode(i: usize, frame: usize) -> u64
 }
 
 // Takes the next unused frame for a table of zeros that word `i` names.
-fn take(words: &mut Vec<u64>, i: usize) -> usize
-    requires inside { i < vec_len words.old }
-    requires free { next_of words.old.items < frames_of words.old.items }
-    ensures after { words.new.items ≡ taken words.old.items i }
-    ensures frame { result ≡ next_of words.old.items }
+fn take(words: &mut [u64], i: usize) -> usize
+    requires inside { i < length words.old }
+    requires free { next_of words.old < frames_of words.old }
+    ensures after { words.new ≡ taken words.old i }
+    ensures frame { result ≡ next_of words.old }
 {
     let frame = word(words, NEXT) as usize;
     clear(words, frame * FRAME, FRAME);
@@ -75,30 +59,29 @@ fn take(words: &mut Vec<u64>, i: usize) -> usize
 }
 
 // The frame of the table that word `i` names, which is taken where there is none.
-fn grow(words: &mut Vec<u64>, i: usize) -> usize
-    requires inside { i < vec_len words.old }
-    requires fits { names words.old.items i < frames_of words.old.items }
-    requires free { names words.old.items i ≡ 0 → next_of words.old.items < frames_of words.old.items }
-    ensures after { words.new.items ≡ grown words.old.items i }
-    ensures frame { result ≡ names words.new.items i }
-    ensures small { result < frames_of words.new.items }
+fn grow(words: &mut [u64], i: usize) -> usize
+    requires inside { i < length words.old }
+    requires fits { names words.old i < frames_of words.old }
+    requires free { names words.old i ≡ 0 → next_of words.old < frames_of words.old }
+    ensures after { words.new ≡ grown words.old i }
+    ensures frame { result ≡ names words.new i }
+    ensures small { result < frames_of words.new }
 {
-    let frame = decode(i, word(words, i));
-    if frame != 0 {
-        return frame;
+    match decode(i, word(words, i)) {
+        Some(frame) => frame,
+        None => take(words, i),
     }
-    take(words, i)
 }
 
-// Takes the tables that are missing on the way to the leaf of `page`, and gives the last one.
-pub(crate) fn build(words: &mut Vec<u64>, asid: Asid, page: VirtualPage) -> usize
-    requires sound { Sound words.old.items }
-    requires room { has_room words.old.items asid.number page.number ≡ true }
-    ensures after { words.new.items ≡ built words.old.items asid.number (path_of page.number) }
-    ensures frame { result ≡ leaf_table words.new.items asid.number page.number }
-    ensures inside { result * 512 + 512 ≤ vec_len words.new }
+// Takes the tables that are missing on the way to the leaf of a page under an ASID, and gives the last one.
+pub(crate) fn build(words: &mut [u64], place: AsidPage) -> usize
+    requires sound { Sound words.old }
+    requires room { has_room words.old place.asid.number place.page.number ≡ true }
+    ensures after { words.new ≡ built words.old place.asid.number (path_of place.page.number) }
+    ensures frame { result ≡ leaf_table words.new place.asid.number place.page.number }
+    ensures inside { result * 512 + 512 ≤ length words.new }
 {
-    let root = grow(words, asid.number as usize);
-    let middle = grow(words, root * FRAME + page.root_index());
-    grow(words, middle * FRAME + page.middle_index())
+    let root = grow(words, place.asid.number as usize);
+    let middle = grow(words, root * FRAME + place.page.index(2));
+    grow(words, middle * FRAME + place.page.index(1))
 }

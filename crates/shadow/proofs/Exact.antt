@@ -1,8 +1,9 @@
 -- What the steps of a shadow come to on its book.
-use Rattle.std.proofs.Common.{◌≡◌, ℕ, ◌/◌, ◌^◌, ◌<◌, Bool, true, ◌&&◌, eqb, leb, ◌↔◌, List, [], length, Some, None, vec_items, sym, refl, ap, ◌∙◌, subst, inl, inr, arith}
+use Rattle.std.proofs.Common.{◌≡◌, ℕ, ◌/◌, ◌^◌, ◌<◌, Bool, ◌&&◌, eqb, leb, ◌↔◌, List, [], length, Some, None, Ok, Err, vec_items, sym, refl, ap, ◌∙◌, subst, inl, inr, arith}
+use Rattle.std.proofs.Math.Bool.{and-true}
 use Rattle.std.specs.List.{ContainsAt as Has}
 use Rattle.std.proofs.ByRecursion.{all-has}
-use Rattle.std.proofs.lemmas.Bool.{cases_eq, cases_Bool, cond-true, cond-false, lt-ltb, ltb-true, leb-true, eqb-true, and_parts, or_cases}
+use Rattle.std.proofs.lemmas.Bool.{cond-true, lt-ltb, ltb-true, leb-true, eqb-true, and_parts, or_cases}
 use Rattle.registers.specs.Registers.{is_paged, asid_of}
 use Rattle.translator.specs.declared.grants.Grant.{Grant}
 use Rattle.translator.specs.Fences.{covers_grant}
@@ -13,19 +14,13 @@ use Rattle.pool.proofs.Fields.{sound_of}
 use Rattle.leaves.specs.Leaves.{has_some_right, leaf_word, grant_of}
 use Rattle.leaves.specs.Lookups.{grant_at}
 use Rattle.leaves.proofs.Words.{word_read, word_write, word_fetch, word_user, word_frame, word_leaf}
-use Rattle.shadow.specs.declared.stores.Store.{Store}
-use Rattle.shadow.specs.declared.stores.Store.TheVariants.{Idle, Working}
 use Rattle.shadow.specs.Book.{book_of}
-use Rattle.shadow.specs.Shadows.{grants_of}
+use Rattle.shadow.specs.Shadows.{Store, grants_of}
 use Rattle.shadow.specs.Laws.{KeptByRights, without_global, Filled, FillsExactly, FencesExactly}
-use Rattle.shadow.specs.Books.{some_none, held, book_all, book_has, booked}
+use Rattle.shadow.specs.Books.{held, book_all, book_has, booked}
 use Rattle.shadow.specs.Fullest.{fullest_canonical, fullest_reads, walked_fullest}
-use Rattle.shadow.specs.Answering.{kept, grant_found}
+use Rattle.shadow.specs.Answering.{kept, grant_found, inserted_holds}
 use Rattle.shadow.specs.Fencing.{fenced_exactly}
-
-and_true : (b c : Bool) → c ≡ true → (b && c) ≡ b
-and_true true c e = e
-and_true Bool.false c e = refl
 
 pub kept_by_rights : KeptByRights
 kept_by_rights w a g root few h =
@@ -37,7 +32,7 @@ kept_by_rights w a g root few h =
     ] in
     let inside = ltb-true g.frame (length w.words / 512) n.path.inside in
     let frame : g.frame < 2 ^ 16 = omega arith in
-    rw (lt-ltb g.asid 16 asid, lt-ltb g.frame (2 ^ 16) frame) (and_true (has_some_right g) true refl)
+    rw (lt-ltb g.asid 16 asid, lt-ltb g.frame (2 ^ 16) frame) (and-true (has_some_right g))
 
 -- the leaf of a grant gives it back
 given_back : (g : Grant) → g.frame < 2 ^ 16 → grant_of g.asid g.page (record { word = leaf_word g }) ≡ without_global g
@@ -55,31 +50,9 @@ fills_exactly pool w g x s f k =
           (book_all p (Filled pool g)
           (λ b q y e.
           let h = held p b q y e in
-          let elsewhere : ((b ≡ g.asid) × (q ≡ g.page) → ⊥) → Filled pool g y = λ ne.
-          let l = law.elsewhere b q h.few ne in
-          elim (cases_Bool (has_room pool g.asid g.page)) [
-            | inl r ↦
-                let same = l ∙ cond-true (has_room pool g.asid g.page) (found pool b q) None r in
-                inr (
-                  book_has pool b q y (grant_found pool b q (found p b q) h.few (sym same) ∙ (sym (grant_found p b q (found p b q) h.few refl) ∙ e)),
-                  (λ z. ne (sym h.asid ∙ z.0, sym h.page ∙ z.1)),
-                  r,
-                )
-            | inr r ↦
-                let none = l ∙ cond-false (has_room pool g.asid g.page) (found pool b q) None r in
-                absurd (some_none y (sym (grant_found p b q None h.few none) ∙ e))
-          ] in
-          elim (cases_eq b g.asid) [
-            | inr ne ↦ elsewhere (λ z. ne z.0)
-            | inl eb ↦
-                elim (cases_eq q g.page) [
-                  | inr ne ↦ elsewhere (λ z. ne z.1)
-                  | inl eq ↦
-                      let here : grant_at p b q ≡ Some (without_global g) = rw (eb, eq) new in
-                      let both = sym e ∙ here in
-                      let is : y ≡ without_global g = cc in
-                      inl is
-                ]
+          elim (inserted_holds pool s w g f m b q y e) [
+            | inl is ↦ inl (is ∙ given_back g m.frame)
+            | inr z ↦ inr (book_has pool b q y z.0, (λ u. z.1 (sym h.asid ∙ u.0, sym h.page ∙ u.1)), z.2)
           ])),
       λ y.
           elim y [
@@ -98,9 +71,9 @@ has_none : (x : Grant) → Has [] x → ⊥
 has_none x h = let l = h.1 in omega arith
 
 pub fences_exactly : FencesExactly
-fences_exactly (Idle words) t f x e =
+fences_exactly (Err words) t f x e =
     subst (λ (y : Store). Has (grants_of y) x ↔ (Has [] x × (covers_grant f x ≡ Bool.false))) (sym e) ((λ h. absurd (has_none x h)), (λ h. absurd (has_none x h.0)))
-fences_exactly (Working pool) (Idle words) f x e = absurd e
-fences_exactly (Working pool) (Working after) f x e =
+fences_exactly (Ok pool) (Err words) f x e = absurd e
+fences_exactly (Ok pool) (Ok after) f x e =
     subst (λ (p : List ℕ). Has (book_of p) x ↔ (Has (book_of (vec_items pool.words)) x × (covers_grant f x ≡ Bool.false))) (sym e)
     (fenced_exactly (vec_items pool.words) (sound_of pool) f.address f.asid x)

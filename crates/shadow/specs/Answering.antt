@@ -4,6 +4,7 @@ use Rattle.std.proofs.Common.{sym, ap, subst, ◌∙◌, inl, inr, arith}
 use Rattle.std.specs.List.{ContainsAt as Has, AllByRecursion}
 use Rattle.std.proofs.ByRecursion.{All-weaker, all_has_itself}
 use Rattle.std.proofs.lemmas.Bool.{cases_eq, cases_Bool, cond-true, cond-false, lt-ltb, ltb-true, and_parts, both_ways, false≢true}
+use Rattle.std.proofs.lemmas.Option.{none-some}
 use Rattle.entry.specs.declared.entries.Entry.{Entry}
 use Rattle.access.specs.declared.accesses.Access.{Access}
 use Rattle.access.specs.declared.accesses.Kind.{Kind}
@@ -27,7 +28,7 @@ use Rattle.leaves.specs.Lookups.{grant_at, hit}
 use Rattle.shadow.specs.Steps.{is_kept, learnt, reply_by, after_by}
 use Rattle.shadow.specs.Book.{book_of}
 use Rattle.leaves.proofs.Words.{word_read, word_write, word_fetch, word_user, word_frame, word_leaf}
-use Rattle.shadow.specs.Books.{some_none, held, book_all, book_has, answering_hit}
+use Rattle.shadow.specs.Books.{held, book_all, book_has, answering_hit}
 use Rattle.shadow.specs.Fullest.{fullest_canonical, fullest_reads, walked_fullest}
 
 -- the grant that the leaf of a fullest grant gives back is true
@@ -77,6 +78,10 @@ learnt_made pool p g a q v e ea eq ev h l f =
 pub grant_found : (pool : List ℕ) (a page : ℕ) (o : Option Entry) → a < 16 → found pool a page ≡ o → grant_at pool a page ≡ as_grant a page o
 grant_found pool a page o h e = cond-true (nat_lt a 16) (as_grant a page (found pool a page)) None (lt-ltb a 16 h) ∙ ap (as_grant a page) e
 
+both_eq : (a b c d : ℕ) → ((a ≡ b) × (c ≡ d)) ⊎ ((a ≡ b) × (c ≡ d) → ⊥)
+both_eq a b c d =
+    elim (cases_eq a b) [ inr ne ↦ inr (λ z. ne z.0) | inl e ↦ elim (cases_eq c d) [ inr ne ↦ inr (λ z. ne z.1) | inl f ↦ inl (e, f) ] ]
+
 module _ (pool : List ℕ) (s : Sound pool) (w : World) where
   abbrev Fine : Grant → Type 0
   Fine x = Has (book_of pool) x ⊎ True w x
@@ -85,34 +90,38 @@ module _ (pool : List ℕ) (s : Sound pool) (w : World) where
   same_fine = All-weaker (Has (book_of pool)) Fine (λ x h. inl h) (book_of pool) (all_has_itself (book_of pool))
 
   module _ (g : Grant) (f : Fullest w g) (k : Kept g) where
-    inserted_fine : AllByRecursion Fine (book_of (inserted pool g.asid g.page (leaf_word g)))
-    inserted_fine =
+    -- what the pool holds once a grant is put in: the grant as its leaf gives it back, and what it held elsewhere, where it had room
+    pub inserted_holds : (b q : ℕ) (x : Grant) → grant_at (inserted pool g.asid g.page (leaf_word g)) b q ≡ Some x
+        → (x ≡ grant_of g.asid g.page (record { word = leaf_word g }))
+        ⊎ ((grant_at pool b q ≡ Some x) × ((b ≡ g.asid) × (q ≡ g.page) → ⊥) × (has_room pool g.asid g.page ≡ true))
+    inserted_holds b q x e =
         let p = inserted pool g.asid g.page (leaf_word g) in
         let law = inserts pool g.asid g.page (leaf_word g) s k.asid (fullest_canonical w g f) (word_leaf g k.frame k.rights (fullest_reads w g f)) in
-        book_all p Fine
-        (λ b q x e.
-        let h = held p b q x e in
-        let elsewhere : ((b ≡ g.asid) × (q ≡ g.page) → ⊥) → Fine x = λ ne.
-        let l = law.elsewhere b q h.few ne in
-        elim (cases_Bool (has_room pool g.asid g.page)) [
-          | inl r ↦
-              let same = l ∙ cond-true (has_room pool g.asid g.page) (found pool b q) None r in
-              inl (book_has pool b q x (grant_found pool b q (found p b q) h.few (sym same) ∙ (sym (grant_found p b q (found p b q) h.few refl) ∙ e)))
-          | inr r ↦
-              let none = l ∙ cond-false (has_room pool g.asid g.page) (found pool b q) None r in
-              absurd (some_none x (sym (grant_found p b q None h.few none) ∙ e))
-        ] in
-        elim (cases_eq b g.asid) [
-          | inr ne ↦ elsewhere (λ z. ne z.0)
-          | inl eb ↦
-              elim (cases_eq q g.page) [
-                | inr ne ↦ elsewhere (λ z. ne z.1)
-                | inl eq ↦
-                    let there : found p b q ≡ Some (record { word = leaf_word g }) = rw (eb, eq) law.here in
-                    let new = sym (grant_found p b q (Some (record { word = leaf_word g })) h.few there) ∙ e in
-                    let is : grant_of b q (record { word = leaf_word g }) ≡ x = cc in
-                    inr (subst (True w) is (rw (eb, eq) (new_true w g f k.frame)))
+        let few = (held p b q x e).few in
+        elim (both_eq b g.asid q g.page) [
+          | inl y ↦
+              let there : found p b q ≡ Some (record { word = leaf_word g }) = rw (y.0, y.1) law.here in
+              let new = sym (grant_found p b q (Some (record { word = leaf_word g })) few there) ∙ e in
+              let is : x ≡ grant_of b q (record { word = leaf_word g }) = cc in
+              inl (is ∙ rw (y.0, y.1) refl)
+          | inr ne ↦
+              let l = law.elsewhere b q few ne in
+              elim (cases_Bool (has_room pool g.asid g.page)) [
+                | inl r ↦
+                    let same = l ∙ cond-true (has_room pool g.asid g.page) (found pool b q) None r in
+                    inr (grant_found pool b q (found p b q) few (sym same) ∙ (sym (grant_found p b q (found p b q) few refl) ∙ e), ne, r)
+                | inr r ↦
+                    let none = l ∙ cond-false (has_room pool g.asid g.page) (found pool b q) None r in
+                    absurd (none-some x (sym (grant_found p b q None few none) ∙ e))
               ]
+        ]
+
+    inserted_fine : AllByRecursion Fine (book_of (inserted pool g.asid g.page (leaf_word g)))
+    inserted_fine =
+        book_all (inserted pool g.asid g.page (leaf_word g)) Fine
+        (λ b q x e. elim (inserted_holds b q x e) [
+          | inl is ↦ inr (subst (True w) (sym is) (new_true w g f k.frame))
+          | inr h ↦ inl (book_has pool b q x h.0)
         ])
 
   learnt_fine : (o : Option Grant) → ((g : Grant) → o ≡ Some g → Fullest w g) → AllByRecursion Fine (book_of (learnt pool o))

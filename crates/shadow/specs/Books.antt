@@ -1,11 +1,12 @@
 -- Membership in the book, and the grant of the book that answers an access.
-use Rattle.std.specs.Prelude.{◌≡◌, ℕ, zero, suc, ◌+◌, ◌/◌, ◌%◌, ◌^◌, ◌<◌, Bool, true, false, cond, ◌||◌, ◌⊎◌, List, [], ◌∷◌, Some, None, Option, ◌==◌, ◌≢◌, nat_lt}
+use Rattle.std.specs.Prelude.{◌≡◌, ℕ, zero, suc, ◌+◌, ◌/◌, ◌%◌, ◌^◌, ◌<◌, Bool, true, false, cond, ◌||◌, ◌⊎◌, List, [], ◌∷◌, Some, None, Option, ◌==◌, nat_lt}
 use Rattle.std.proofs.Math.Path.{refl, ap}
 use Rattle.std.proofs.Common.{sym, subst, ◌∙◌, arith}
 use Rattle.std.proofs.Math.Logic.{inl, inr}
 use Rattle.std.specs.List.{ContainsAt as Has, AllByRecursion}
 use Rattle.std.proofs.ByRecursion.{All-append, all-has, has_append_left, has_append_right}
-use Rattle.std.proofs.lemmas.Bool.{cases_eq, cases_Bool, cond-true, cond-false, lt-ltb, le-ltb, ltb-true, eqb-true, eq-eqb, and_parts, and_from, or_cases, both_ways}
+use Rattle.std.proofs.lemmas.Bool.{cases_eq, cases_Bool, cond-true, cond-false, lt-ltb, le-ltb, ltb-true, false_from_ne_true, eqb-true, eq-eqb, and_parts, and_from, or_cases, both_ways}
+use Rattle.std.proofs.lemmas.Option.{none-some}
 use Rattle.entry.specs.declared.entries.Entry.{Entry}
 use Rattle.access.specs.declared.accesses.Access.{Access}
 use Rattle.access.specs.Accesses.{page_of}
@@ -54,9 +55,6 @@ page_at page c =
           cond-false (nat_lt n 67108864) n (n + 4503599493152768) (le-ltb n 67108864 (omega arith)) ∙ omega arith
     ]
 
-pub some_none : {X : Type 0} (x : X) → None ≢ Some x
-some_none x e = let z : ◌≡◌ {A = ℕ} 0 1 = cc in omega arith
-
 -- what a grant that the pool holds says of itself
 pub record Held (a q : ℕ) (g : Grant) : Type 0 where
   pub few : a < 16
@@ -66,7 +64,7 @@ pub record Held (a q : ℕ) (g : Grant) : Type 0 where
   pub global : g.global ≡ false
 
 as_grant_lem : (a p : ℕ) (g : Grant) (o : Option Entry) → as_grant a p o ≡ Some g → (g.asid ≡ a) × (g.page ≡ p) × (g.global ≡ false)
-as_grant_lem a p g None e = absurd (some_none g e)
+as_grant_lem a p g None e = absurd (none-some g e)
 as_grant_lem a p g (Some x) e =
     let y : grant_of a p x ≡ g = cc in
     (sym (ap (λ z. z.asid) y), sym (ap (λ z. z.page) y), sym (ap (λ z. z.global) y))
@@ -74,11 +72,11 @@ as_grant_lem a p g (Some x) e =
 pub held : (pool : List ℕ) (a page : ℕ) (g : Grant) → grant_at pool a page ≡ Some g → Held a page g
 held pool a page g e =
     elim (cases_Bool (nat_lt a 16)) [
-      | inr n ↦ absurd (some_none g (sym (cond-false (nat_lt a 16) (as_grant a page (found pool a page)) None n) ∙ e))
+      | inr n ↦ absurd (none-some g (sym (cond-false (nat_lt a 16) (as_grant a page (found pool a page)) None n) ∙ e))
       | inl l ↦
           let f = sym (cond-true (nat_lt a 16) (as_grant a page (found pool a page)) None l) ∙ e in
           elim (cases_Bool (is_canonical page)) [
-            | inr n ↦ absurd (some_none g (sym (ap (as_grant a page) (found_not pool a page n)) ∙ f))
+            | inr n ↦ absurd (none-some g (sym (ap (as_grant a page) (found_not pool a page n)) ∙ f))
             | inl c ↦
                 let x = as_grant_lem a page g (found pool a page) f in
                 record { few = ltb-true a 16 l; canonical = c; asid = x.0; page = x.1; global = x.2 }
@@ -131,10 +129,6 @@ module _ {X : Type 0} (test : X → Bool) where
   first_some g xs t h a =
       elim (first_from g xs a) [ inl e ↦ e | inr e ↦ absurd (both_ways (test g) (all-has (λ x. test x ≡ false) xs g e h) t) ]
 
-false_if : (b : Bool) → (b ≢ true) → b ≡ false
-false_if true h = absurd (h refl)
-false_if false h = refl
-
 module _ (pool : List ℕ) (asid : ℕ) (a : Access) where
   -- a grant of the book that serves the access is the one at its page and ASID
   served : (b page : ℕ) (x : Grant) → grant_at pool b page ≡ Some x → serves asid a x ≡ true → (grant_at pool asid (page_of a) ≡ Some x) × (allows a x ≡ true)
@@ -160,7 +154,7 @@ module _ (pool : List ℕ) (asid : ℕ) (a : Access) where
   first_hit : (o : Option Grant) → grant_at pool asid (page_of a) ≡ o → first_of (serves asid a) (book_of pool) ≡ allowing a o
   first_hit None e =
       first_none (serves asid a) (book_of pool)
-      (book_all pool (λ x. serves asid a x ≡ false) (λ b page x h. false_if (serves asid a x) (λ s. some_none x (sym e ∙ (served b page x h s).0))))
+      (book_all pool (λ x. serves asid a x ≡ false) (λ b page x h. false_from_ne_true (serves asid a x) (λ s. none-some x (sym e ∙ (served b page x h s).0))))
   first_hit (Some g) e =
       elim (cases_Bool (allows a g)) [
         | inl al ↦
@@ -170,7 +164,7 @@ module _ (pool : List ℕ) (asid : ℕ) (a : Access) where
         | inr al ↦
             first_none (serves asid a) (book_of pool)
             (book_all pool (λ x. serves asid a x ≡ false)
-            (λ b page x h. false_if (serves asid a x)
+            (λ b page x h. false_from_ne_true (serves asid a x)
             (λ s. let v = served b page x h s in let q : x ≡ g = (let z = sym v.0 ∙ e in cc) in both_ways (allows a g) al (subst (λ (y : Grant). allows a y ≡ true) q v.1))))
             ∙ sym (cond-false (allows a g) (Some g) None al)
       ]

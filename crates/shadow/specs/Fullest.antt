@@ -1,6 +1,7 @@
 -- The fullest grant of a page: its page is canonical, and it has the right to write only with that to read.
 use Rattle.std.specs.Prelude.{◌≡◌, ℕ, Bool, true, false, cond, not, ◌&&◌, Some, None, Ok, Err, Option, Result, refl}
 use Rattle.std.proofs.Common.{sym, ap, subst, ◌∙◌, arith}
+use Rattle.std.proofs.lemmas.Option.{none-some}
 use Rattle.std.specs.Result.{result_map_both}
 use Rattle.std.proofs.lemmas.Bool.{and_parts, and_from, or_parts, false≢true, true≢false}
 use Rattle.entry.specs.Entry.{is_valid, is_readable, is_writable, is_accessed, is_dirty, is_user, is_malformed}
@@ -40,9 +41,7 @@ staged true true (Err f) fault bad p frame leaf e = let z : ◌≡◌ {A = ℕ} 
 staged true false q fault bad p frame leaf e = let z : ◌≡◌ {A = ℕ} 0 1 = cc in absurd (omega arith)
 staged false fits q fault bad p frame leaf e =
     let s : bare p ≡ record { frame = frame; leaf = Some leaf } = cc in
-    let t : None ≡ Some leaf = ap (λ x. x.leaf) s in
-    let z : ◌≡◌ {A = ℕ} 0 1 = cc in
-    absurd (omega arith)
+    absurd (none-some leaf (ap (λ x. x.leaf) s))
 
 -- a leaf that a walk ends at has W only with R
 writes_read : (r w : Bool) → (not r && w) ≡ false → w ≡ true → r ≡ true
@@ -101,7 +100,7 @@ walked_fullest w a g h = by_walk (translate_of w a) refl h
   where
     by_walk : (q : Result Translation Fault) → translate_of w a ≡ q → (reply_of (asid_of w.guest) a q).grant ≡ Some g → Fullest w g
     by_walk (Ok t) e h = (subst (λ (o : Option Grant). Given o (λ x. (x.page ≡ page_of a) × Fullest w x)) h (made_fullest w a t e)).1
-    by_walk (Err f) e h = let z : ◌≡◌ {A = ℕ} 0 1 = cc in absurd (omega arith)
+    by_walk (Err f) e h = absurd (none-some g h)
 
 pub handed_fullest : (w : World) (a : Access) (r : Reply) (g : Grant) → r ≡ walked_reply w a → r.grant ≡ Some g → Fullest w g
 handed_fullest w a r g e h = walked_fullest w a g (subst (λ (x : Reply). x.grant ≡ Some g) e h)

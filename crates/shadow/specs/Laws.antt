@@ -12,10 +12,9 @@ use Rattle.translator.specs.Walked.{walked_reply}
 use Rattle.layout.specs.Changes.{has_room}
 use Rattle.layout.specs.Sound.{Sound}
 use Rattle.leaves.specs.Leaves.{has_some_right}
-use Rattle.shadow.specs.declared.stores.Store.{Store}
 use Rattle.shadow.specs.Steps.{is_kept, learnt}
 use Rattle.shadow.specs.Book.{book_of}
-use Rattle.shadow.specs.Shadows.{grants_of, Forgets}
+use Rattle.shadow.specs.Shadows.{Store, grants_of, Forgets}
 
 -- of the grants that walks hand out under a guest root of the right layout, in a memory of at most 4,096 frames, those with some right are kept, and no others
 abbrev pub KeptByRights : Type 0

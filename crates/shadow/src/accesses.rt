@@ -6,7 +6,7 @@ ghost use Rattle.leaves.specs.Lookups.{hit};
 ghost use Rattle.shadow.specs.Steps.{learnt, reply_by, after_by};
 
 use access::Access;
-use layout::{Asid, LeafEntry, VirtualPage};
+use layout::{LeafEntry, AsidPage};
 use leaves::{answering, has_some_right, leaf_entry};
 use memory::Memory;
 use pool::Pool;
@@ -22,16 +22,13 @@ fn learn(pool: &mut Pool, grant: Grant)
     if !has_some_right(grant) {
         return;
     }
-    let Some(asid) = Asid::new(grant.asid) else {
-        return;
-    };
-    let Some(page) = VirtualPage::new(grant.page) else {
+    let Some(place) = AsidPage::new(grant.asid, grant.page) else {
         return;
     };
     let leaf = LeafEntry {
         entry: leaf_entry(grant),
     };
-    pool.insert(asid, page, leaf);
+    pool.insert(place, leaf);
 }
 
 // Answers an access from the pool, or by the walk, from which the pool learns.
@@ -40,10 +37,7 @@ pub(crate) fn access_pool<M: Memory>(pool: &mut Pool, world: &World<'_, M>, acce
     ensures after { pool.new.words.items ≡ after_by pool.old.words.items (hit pool.old.words.items world.now.guest access) (walked_reply world.now access) }
 {
     if let Some(grant) = answering(pool, world.roots().guest, access) {
-        return Reply {
-            outcome: Ok(grant.frame),
-            grant: Some(grant),
-        };
+        return grant.into();
     }
     let reply = walked(world, access);
     if let Some(grant) = reply.grant {

@@ -4,7 +4,6 @@
 mod accesses;
 mod laws;
 mod shadows;
-mod stores;
 
 pub use laws::{book_is_exact, book_is_found};
 pub use shadows::Shadow;

@@ -6,7 +6,6 @@ ghost use Rattle.shadow.specs.Lawful;
 ghost use Rattle.shadow.specs.Lawful.{fences};
 
 use crate::accesses::access_pool;
-use crate::stores::Store;
 use access::Access;
 use leaves::fence_pool;
 use memory::Memory;
@@ -17,7 +16,7 @@ use translator::{Fence, Reply, Translator, walked};
 /// Remembers grants as leaves of Sv39 tables in a pool that it owns; in a pool of fewer than four frames it remembers nothing.
 #[derive(Drop)]
 pub struct Shadow {
-    store: Store,
+    store: Result<Pool, Vec<u64>>,
 }
 
 impl Shadow {
@@ -25,13 +24,8 @@ impl Shadow {
     pub fn new(pool: Vec<u64>) -> Shadow
         ensures { MadeOf pool.items result.store }
     {
-        match Pool::new(pool) {
-            Ok(pool) => Shadow {
-                store: Store::Working(pool),
-            },
-            Err(words) => Shadow {
-                store: Store::Idle(words),
-            },
+        Shadow {
+            store: Pool::new(pool),
         }
     }
 
@@ -40,8 +34,8 @@ impl Shadow {
         ensures { result.items ≡ words_of self.store }
     {
         match self.store {
-            Store::Idle(words) => words,
-            Store::Working(pool) => pool.into_words(),
+            Ok(pool) => pool.into_words(),
+            Err(words) => words,
         }
     }
 }
@@ -63,22 +57,20 @@ impl Translator for Shadow {
 
     fn access<M: Memory>(&mut self, world: &World<'_, M>, access: Access) -> Reply {
         match &mut self.store {
-            Store::Idle(_) => walked(world, access),
-            Store::Working(pool) => access_pool(pool, world, access),
+            Ok(pool) => access_pool(pool, world, access),
+            Err(_) => walked(world, access),
         }
     }
 
     fn fence(&mut self, fence: Fence) {
-        match &mut self.store {
-            Store::Idle(_) => {}
-            Store::Working(pool) => fence_pool(pool, fence),
+        if let Ok(pool) = &mut self.store {
+            fence_pool(pool, fence);
         }
     }
 
     fn host_fence(&mut self) {
-        match &mut self.store {
-            Store::Idle(_) => {}
-            Store::Working(pool) => pool.reset(),
+        if let Ok(pool) = &mut self.store {
+            pool.reset();
         }
     }
 }

@@ -1,9 +1,7 @@
 //! Pools of every size, exhaustion, fences, every ASID, and both halves of the address space, looked at by loads.
+use crate::steps::{put, reach};
 use access::{Access, Kind, Mode};
 use layout::check_pool;
-use memory::{Memory, Words};
-use registers::{GuestRoot, HostRoot, Roots};
-use stages::World;
 use shadow::Shadow;
 use std::alloc::Global;
 use std::test::Fail;
@@ -23,34 +21,15 @@ fn leaf(frame: u64) -> u64 {
 // Guest tables in frames 1 to 3: the first pages of every 2 MiB of both halves map to frame 4, the next page to frame 5.
 fn image(heap: Global) -> Result<Vec<u64>, Fail> {
     let mut words = vec![in heap; 0u64; WORDS]?;
-    for i in 512..1024 {
-        if let Some(word) = words.get_mut(i) {
-            *word = 2 * 1024 + 1;
-        }
-    }
-    for i in 1024..1536 {
-        if let Some(word) = words.get_mut(i) {
-            *word = 3 * 1024 + 1;
-        }
-    }
-    if let Some(word) = words.get_mut(1536) {
-        *word = leaf(4);
-    }
-    if let Some(word) = words.get_mut(1537) {
-        *word = leaf(5);
-    }
+    words[512..1024].fill(2 * 1024 + 1);
+    words[1024..1536].fill(3 * 1024 + 1);
+    words[1536] = leaf(4);
+    words[1537] = leaf(5);
     Ok(words)
 }
 
-// Where a load of `address` under `asid` comes to.
-fn load(shadow: &mut Shadow, words: &mut Vec<u64>, asid: u64, address: u64) -> Option<u16> {
-    let Ok(guest) = GuestRoot::try_from(8 << 60 | asid % 16 << 44 | 1) else {
-        return None;
-    };
-    let Ok(host) = HostRoot::try_from(0) else {
-        return None;
-    };
-    let memory = Words { words };
+// The frame that a load of `address` under `asid` comes to, with neither SUM nor MXR.
+fn load(shadow: &mut Shadow, words: &mut [u64], asid: u16, address: u64) -> Option<u16> {
     let access = Access {
         kind: Kind::Load,
         mode: Mode::Supervisor,
@@ -58,20 +37,12 @@ fn load(shadow: &mut Shadow, words: &mut Vec<u64>, asid: u64, address: u64) -> O
         mxr: false,
         address,
     };
-    match shadow
-        .access(&World::new(&memory, Roots { guest, host }), access)
-        .outcome
-    {
-        Ok(frame) => Some(frame),
-        Err(_) => None,
-    }
+    reach(shadow, words, 0, asid, access)
 }
 
 // Maps the first pages to another frame, behind the shadow's back.
-fn remap(words: &mut Vec<u64>, frame: u64) {
-    if let Some(word) = words.get_mut(1536) {
-        *word = leaf(frame);
-    }
+fn remap(words: &mut [u64], frame: u64) {
+    put(words, 1536, leaf(frame));
 }
 
 fn fence(address: Option<u64>, asid: Option<u16>) -> Fence {
@@ -90,13 +61,9 @@ fn pools_are_checked(rt: HostRuntime) -> Result<(), Fail> {
         assert_eq!(rt; check_pool(&words).is_ok(), frames >= 4);
     }
     let words = vec![in rt.alloc(); 7u64; 512 * 4 + 1]?;
-    match check_pool(&words) {
-        Ok(()) => Err(Fail::new("accepted")),
-        Err(refusal) => {
-            assert_eq!(rt; refusal.number(), 2);
-            Ok(())
-        },
-    }
+    let refused = check_pool(&words).err().map(|refusal| refusal.number());
+    assert_eq!(rt; refused, Some(2));
+    Ok(())
 }
 
 #[test]
@@ -109,9 +76,8 @@ fn small_pools_are_left_alone(rt: HostRuntime) -> Result<(), Fail> {
         assert_eq!(rt; load(&mut shadow, &mut words, 1, 0), Some(6));
         shadow.fence(fence(None, None));
         shadow.host_fence();
-        for word in shadow.into_pool().iter() {
-            assert!(rt; *word == 7);
-        }
+        let pool = shadow.into_pool();
+        assert!(rt; pool.iter().all(|word| *word == 7));
     }
     Ok(())
 }

@@ -1,10 +1,9 @@
 //! A guest whose tables are edited behind a translator's back, step by step.
 use access::{Access, Kind, Mode};
-use layout::word;
 use memory::Words;
 use registers::{GuestRoot, HostRoot, Roots};
-use stages::World;
 use shadow::Shadow;
+use stages::World;
 use std::alloc::Global;
 use std::process::Abort;
 use std::test::Fail;
@@ -16,14 +15,11 @@ pub const UNTOUCHED: u64 = 7;
 /// A host root, Sv39x4, whose one leaf maps the first GiB to itself with V, R, W, U, A and D: no fetches.
 pub const NO_FETCH: u64 = 8 << 60 | 8;
 
-/// In place of a frame, a fault.
-pub const NOWHERE: u16 = 0xffff;
-
 /// A step.
 #[derive(Clone, Copy)]
 pub enum Step {
-    /// A load under an ASID at an address comes to a frame.
-    Load(u16, u64, u16),
+    /// A load under an ASID at an address comes to a frame, or faults.
+    Load(u16, u64, Option<u16>),
     /// The memory's word at an index is set.
     Set(usize, u64),
     Fence(Option<u64>, Option<u16>),
@@ -44,57 +40,56 @@ static TABLES: [(usize, u64); 8] = [
 
 /// Sets a word, where it is there.
 pub fn put(words: &mut [u64], index: usize, word: u64) {
-    if index < words.len() {
-        words[index] = word;
+    if let Some(place) = words.get_mut(index) {
+        *place = word;
     }
 }
 
 // The guest's tables, in frames 1 to 3: every 2 MiB of a GiB have the same pages.
 fn write_tables(words: &mut [u64]) {
-    for index in 1024..1536 {
-        put(words, index, 0xc01);
+    if let Some(table) = words.get_mut(1024..1536) {
+        table.fill(0xc01);
     }
     for (index, word) in TABLES.iter() {
         put(words, *index, *word);
     }
 }
 
-/// Where a load under an ASID comes to, with SUM and MXR, with this host root.
-pub fn load<T: Translator>(
+/// The frame that an access under an ASID comes to, with this host root, if it does not fault.
+pub fn reach<T: Translator>(
     translator: &mut T,
     words: &mut [u64],
     host: u64,
     asid: u16,
-    address: u64,
-) -> u16 {
+    access: Access,
+) -> Option<u16> {
     let register = 8 << 60 | u64::from(asid) << 44 | 1;
-    let Ok(guest) = GuestRoot::try_from(register) else {
-        return NOWHERE;
-    };
-    let Ok(host) = HostRoot::try_from(host) else {
-        return NOWHERE;
-    };
-    let access = Access {
+    let guest = GuestRoot::try_from(register).ok()?;
+    let host = HostRoot::try_from(host).ok()?;
+    let memory = Words { words };
+    translator
+        .access(&World::new(&memory, Roots { guest, host }), access)
+        .outcome
+        .ok()
+}
+
+// A load by the supervisor with SUM and MXR.
+fn load(address: u64) -> Access {
+    Access {
         kind: Kind::Load,
         mode: Mode::Supervisor,
         sum: true,
         mxr: true,
         address,
-    };
-    let memory = Words { words };
-    match translator
-        .access(&World::new(&memory, Roots { guest, host }), access)
-        .outcome
-    {
-        Ok(frame) => frame,
-        Err(_) => NOWHERE,
     }
 }
 
 // Takes one step, and says whether it went as it should.
 fn goes<T: Translator>(translator: &mut T, words: &mut [u64], host: u64, step: Step) -> bool {
     match step {
-        Step::Load(asid, address, frame) => load(translator, words, host, asid, address) == frame,
+        Step::Load(asid, address, frame) => {
+            reach(translator, words, host, asid, load(address)) == frame
+        }
         Step::Set(index, word) => {
             put(words, index, word);
             true
@@ -129,11 +124,9 @@ pub fn follow<T: Translator>(
 // Checks words of a pool, by index, and that no word from `rest` on was touched.
 fn check_words(rt: &impl Abort, pool: &[u64], wanted: &[(usize, u64)], rest: usize) {
     for (index, value) in wanted {
-        assert!(rt; word(pool, *index) == *value);
+        assert!(rt; pool.get(*index) == Some(value));
     }
-    for index in rest..pool.len() {
-        assert!(rt; word(pool, index) == UNTOUCHED);
-    }
+    assert!(rt; pool.iter().skip(rest).all(|word| *word == UNTOUCHED));
 }
 
 /// Takes the steps with a shadow over a pool of so many words, and checks the pool afterwards.

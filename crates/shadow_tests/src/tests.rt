@@ -16,27 +16,24 @@ const SECOND: usize = 1537;
 
 const TO_6: u64 = 0x18cf;
 
-// Pools by their length, and the number that they are refused with, or 0.
-static LENGTHS: [(usize, u8); 9] = [
-    (0, 2),
-    (512, 2),
-    (1536, 2),
-    (2047, 2),
-    (2048, 0),
-    (2049, 2),
-    (2560, 0),
-    (262_144, 0),
-    (262_656, 0),
+// Pools by their length, and the number that they are refused with, if they are.
+static LENGTHS: [(usize, Option<u8>); 9] = [
+    (0, Some(2)),
+    (512, Some(2)),
+    (1536, Some(2)),
+    (2047, Some(2)),
+    (2048, None),
+    (2049, Some(2)),
+    (2560, None),
+    (262_144, None),
+    (262_656, None),
 ];
 
 #[test]
 fn pools_of_many_lengths_are_checked(rt: HostRuntime) -> Result<(), Fail> {
     for (len, number) in LENGTHS.iter() {
         let words = vec![in rt.alloc(); UNTOUCHED; *len]?;
-        let refused = match check_pool(&words) {
-            Ok(()) => 0,
-            Err(refusal) => refusal.number(),
-        };
+        let refused = check_pool(&words).err().map(|refusal| refusal.number());
         assert!(rt; refused == *number);
     }
     Ok(())
@@ -44,9 +41,9 @@ fn pools_of_many_lengths_are_checked(rt: HostRuntime) -> Result<(), Fail> {
 
 // Nothing is remembered, and no word is touched.
 static IDLE: [Step; 6] = [
-    Step::Load(1, 0, 4),
+    Step::Load(1, 0, Some(4)),
     Step::Set(FIRST, TO_6),
-    Step::Load(1, 0, 6),
+    Step::Load(1, 0, Some(6)),
     Step::Fence(None, None),
     Step::Fence(Some(0), Some(1)),
     Step::HostFence,
@@ -54,12 +51,12 @@ static IDLE: [Step; 6] = [
 
 // Two leaves of ASID 3, and after a host fence one.
 static FILLING: [Step; 6] = [
-    Step::Load(3, 0, 4),
-    Step::Load(3, 0x1008, 5),
+    Step::Load(3, 0, Some(4)),
+    Step::Load(3, 0x1008, Some(5)),
     Step::Set(FIRST, TO_6),
-    Step::Load(3, 8, 4),
+    Step::Load(3, 8, Some(4)),
     Step::HostFence,
-    Step::Load(3, 8, 6),
+    Step::Load(3, 8, Some(6)),
 ];
 
 // The root, the next unused frame and the three tables, in frames 1 to 3; the old table of leaves was zeroed.
@@ -87,13 +84,16 @@ fn pools_of_every_size(rt: HostRuntime) -> Result<(), Fail> {
 }
 
 // Three tables are missing, and none of four frames is unused.
-static NO_FRAME: [Step; 2] = [Step::Load(1, 0, 4), Step::Load(2, 0, 4)];
+static NO_FRAME: [Step; 2] = [Step::Load(1, 0, Some(4)), Step::Load(2, 0, Some(4))];
 
 // Two tables are missing, and one of five frames is unused: none is taken before the reset.
-static TOO_FEW: [Step; 2] = [Step::Load(1, 0, 4), Step::Load(1, 0x4000_0000, 4)];
+static TOO_FEW: [Step; 2] = [
+    Step::Load(1, 0, Some(4)),
+    Step::Load(1, 0x4000_0000, Some(4)),
+];
 
 // One table is missing, and one of five frames is unused.
-static ENOUGH: [Step; 2] = [Step::Load(1, 0, 4), Step::Load(1, 0x20_0000, 4)];
+static ENOUGH: [Step; 2] = [Step::Load(1, 0, Some(4)), Step::Load(1, 0x20_0000, Some(4))];
 
 #[test]
 fn full_pools_are_reset(rt: HostRuntime) -> Result<(), Fail> {
@@ -133,17 +133,17 @@ static FENCES: [(Option<u64>, Option<u16>, [u16; 4]); 13] = [
 fn each_fence_forgets_what_it_covers(rt: HostRuntime) -> Result<(), Fail> {
     for (address, asid, frames) in FENCES.iter() {
         let steps = [
-            Step::Load(1, 0, 4),
-            Step::Load(1, 0x1000, 5),
-            Step::Load(2, 0, 4),
-            Step::Load(1, UPPER, 4),
+            Step::Load(1, 0, Some(4)),
+            Step::Load(1, 0x1000, Some(5)),
+            Step::Load(2, 0, Some(4)),
+            Step::Load(1, UPPER, Some(4)),
             Step::Set(FIRST, TO_6),
             Step::Set(SECOND, TO_6),
             Step::Fence(*address, *asid),
-            Step::Load(1, 0, frames[0]),
-            Step::Load(1, 0x1000, frames[1]),
-            Step::Load(2, 0, frames[2]),
-            Step::Load(1, UPPER, frames[3]),
+            Step::Load(1, 0, Some(frames[0])),
+            Step::Load(1, 0x1000, Some(frames[1])),
+            Step::Load(2, 0, Some(frames[2])),
+            Step::Load(1, UPPER, Some(frames[3])),
         ];
         check_shadow(&rt, rt.alloc(), 8192, 0, &steps, &[], 8192)?;
     }
@@ -167,7 +167,7 @@ static RIGHTS: [(u64, u64, u64, u64); 9] = [
 #[test]
 fn leaves_have_the_rights_of_both_stages(rt: HostRuntime) -> Result<(), Fail> {
     for (leaf, host, kept, next) in RIGHTS.iter() {
-        let steps = [Step::Set(FIRST, *leaf), Step::Load(1, 0, 4)];
+        let steps = [Step::Set(FIRST, *leaf), Step::Load(1, 0, Some(4))];
         let words = [(1536, *kept), (16, *next)];
         check_shadow(&rt, rt.alloc(), 2048, *host, &steps, &words, 2048)?;
     }
@@ -179,9 +179,9 @@ fn every_asid_in_both_halves(rt: HostRuntime) -> Result<(), Fail> {
     let mut shadow = Shadow::new(vec![in rt.alloc(); UNTOUCHED; 262_144]?);
     for asid in 0..16 {
         let steps = [
-            Step::Load(asid, 0, 4),
-            Step::Load(asid, UPPER, 4),
-            Step::Load(asid, LAST, 4),
+            Step::Load(asid, 0, Some(4)),
+            Step::Load(asid, UPPER, Some(4)),
+            Step::Load(asid, LAST, Some(4)),
         ];
         follow(&rt, rt.alloc(), &mut shadow, 0, &steps)?;
     }
@@ -189,12 +189,12 @@ fn every_asid_in_both_halves(rt: HostRuntime) -> Result<(), Fail> {
         let steps = [
             Step::Set(FIRST, TO_6),
             Step::Set(2047, 0),
-            Step::Load(asid, 0, 4),
-            Step::Load(asid, UPPER, 4),
-            Step::Load(asid, LAST, 4),
+            Step::Load(asid, 0, Some(4)),
+            Step::Load(asid, UPPER, Some(4)),
+            Step::Load(asid, LAST, Some(4)),
             Step::Fence(None, Some(asid)),
-            Step::Load(asid, 0, 6),
-            Step::Load(asid, LAST, NOWHERE),
+            Step::Load(asid, 0, Some(6)),
+            Step::Load(asid, LAST, None),
         ];
         follow(&rt, rt.alloc(), &mut shadow, 0, &steps)?;
     }

@@ -4,32 +4,28 @@ use Rattle.pool.proofs.words.build.Goals as goal
 
 pub grow-root-requires : goal.grow-root-requires
 grow-root-requires c =
-    let k = c.args.words.now.ok.0 in
-    let x = grows_root _ _ c.args.page.number c.requires.sound c.args.asid.few c.requires.room in
+    let x = grows_root _ _ c.args.place.page.number c.requires.sound c.args.place.asid.few c.requires.room in
     record { inside = omega arith; fits = x.1; free = x.2 }
 
 pub grow-middle-requires : goal.grow-middle-requires
 grow-middle-requires c =
-    let k = c.grow-root.new.words.ok.0 in
     let r = c.grow-root.ensures in
-    let x = grows_middle _ _ c.args.page.number c.requires.sound c.args.asid.few c.requires.room _ _ _ r.after r.frame c.root_index.ensures.value in
+    let x = grows_middle _ _ c.args.place.page.number c.requires.sound c.args.place.asid.few c.requires.room _ _ _ r.after r.frame c.index.ensures.value in
     record { inside = omega arith; fits = x.1; free = x.2 }
 
 pub grow-requires : goal.grow-requires
 grow-requires c =
-    let k = c.grow-middle.new.words.ok.0 in
     let r = c.grow-root.ensures in
     let m = c.grow-middle.ensures in
-    let x = grows_low _ _ c.args.page.number c.requires.sound c.args.asid.few c.requires.room _ _ _ r.after r.frame c.root_index.ensures.value
-    _ _ _ m.after m.frame c.middle_index.ensures.value in
+    let x = grows_low _ _ c.args.place.page.number c.requires.sound c.args.place.asid.few c.requires.room _ _ _ r.after r.frame c.index.ensures.value
+    _ _ _ m.after m.frame c.index-2.ensures.value in
     record { inside = omega arith; fits = x.1; free = x.2 }
 
 pub returns : goal.returns
 returns c =
-    let k = c.grow.new.words.ok.0 in
     let r = c.grow-root.ensures in
     let m = c.grow-middle.ensures in
     let l = c.grow.ensures in
-    let x = built_all _ _ c.args.page.number c.requires.sound c.args.asid.few c.requires.room _ _ _ r.after r.frame c.root_index.ensures.value
-    _ _ _ m.after m.frame c.middle_index.ensures.value _ _ l.after l.frame in
+    let x = built_all _ _ c.args.place.page.number c.requires.sound c.args.place.asid.few c.requires.room _ _ _ r.after r.frame c.index.ensures.value
+    _ _ _ m.after m.frame c.index-2.ensures.value _ _ l.after l.frame in
     record { after = x.0; frame = x.1; inside = omega arith }

@@ -12,6 +12,6 @@ invariant_of-leaf c =
 pub returns : goal.returns
 returns c =
     let small : c.args.grant.frame < 2 ^ 16 = search rules in
-    learnt_made (vec_items c.args.pool.now.words) _ c.args.grant c.in-Some.asid.number c.in-Some-new.page.number c.leaf_entry.result.word
-    c.insert.ensures.after c.in-Some.ensures c.in-Some-new.ensures c.leaf_entry.ensures (sym c.if-not-has_some_right.ensures)
-    c.in-Some.asid.few small
+    learnt_made (vec_items c.args.pool.now.words) _ c.args.grant c.in-Some.place.asid.number c.in-Some.place.page.number c.leaf_entry.result.word
+    c.insert.ensures.after c.in-Some.ensures.0 c.in-Some.ensures.1 c.leaf_entry.ensures (sym c.if-not-has_some_right.ensures)
+    c.in-Some.place.asid.few small

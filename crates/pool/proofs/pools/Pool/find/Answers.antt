@@ -4,8 +4,9 @@ use Rattle.layout.proofs.Calls.{found_small}
 use Rattle.pool.proofs.Fields.{sound_of}
 use Rattle.pool.proofs.pools.Pool.find.Goals as goal
 
-pub returns-in-Ok : goal.returns-in-Ok
-returns-in-Ok c =
+pub returns-clause-small : goal.returns-clause-small
+returns-clause-small c =
     let s = c.args.self.now in
-    let e : Some c.in-Ok.leaf.entry ≡ found (vec_items s.words) c.args.asid.number c.args.page.number = search rules in
-    record { value = e; small = found_small (vec_items s.words) c.args.asid.number c.args.page.number c.in-Ok.leaf.entry (sound_of s) c.args.asid.few c.args.page.canonical e }
+    let place = c.args.place in
+    let e : Some c.in_ok-leaf.leaf.entry ≡ found (vec_items s.words) place.asid.number place.page.number = search rules in
+    found_small (vec_items s.words) place.asid.number place.page.number c.in_ok-leaf.leaf.entry (sound_of s) place.asid.few place.page.canonical e

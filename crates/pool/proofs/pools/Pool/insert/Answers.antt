@@ -6,31 +6,32 @@ use Rattle.layout.proofs.Rest.{inserted_rest, same_kept}
 use Rattle.pool.proofs.Fields.{sound_of, fields}
 use Rattle.pool.proofs.pools.Pool.insert.Goals as goal
 
-pub build-low-requires : goal.build-low-requires
-build-low-requires c =
-    record {
-      sound = sound_of c.prepare.new.self;
-      room = ready_room _ _ _ c.args.page.number (sound_of c.args.self.now) c.prepare.ensures;
-    }
+pub build-low-requires-clause-room : goal.build-low-requires-clause-room
+build-low-requires-clause-room c =
+    rw c.deref_mut.ensures.value (ready_room _ _ _ c.args.place.page.number (sound_of c.args.self.now) c.prepare.ensures)
 
 pub invariant_of-self : goal.invariant_of-self
 invariant_of-self c =
     let pool = vec_items c.args.self.now.words in
+    let place = c.args.place in
+    let d = c.deref_mut.ensures in
     let b = c.build-low.ensures in
-    let e = insert_made pool _ _ _ c.args.asid.number c.args.page.number c.args.leaf.entry.word _ c.prepare.ensures b.after b.frame
-    c.write_leaf.ensures in
-    fields _ _ e (inserted_sound pool _ c.args.page.number c.args.leaf.entry.word (sound_of c.args.self.now) c.args.asid.few c.args.leaf.leaf)
+    let e = insert_made pool _ _ _ _ _ place.asid.number place.page.number c.args.leaf.entry.word _ _
+    c.prepare.ensures d.value d.len c.build-low.auto.words b.after b.frame c.index.ensures.value in
+    fields _ _ e (inserted_sound pool _ place.page.number _ (sound_of c.args.self.now) place.asid.few c.args.leaf.leaf)
 
 pub returns : goal.returns
 returns c =
     let pool = vec_items c.args.self.now.words in
+    let place = c.args.place in
     let g = sound_of c.args.self.now in
+    let d = c.deref_mut.ensures in
     let b = c.build-low.ensures in
-    let e = insert_made pool _ _ _ c.args.asid.number c.args.page.number c.args.leaf.entry.word _ c.prepare.ensures b.after b.frame
-    c.write_leaf.ensures in
+    let e = insert_made pool _ _ _ _ _ place.asid.number place.page.number c.args.leaf.entry.word _ _
+    c.prepare.ensures d.value d.len c.build-low.auto.words b.after b.frame c.index.ensures.value in
     record {
       after = e;
-      law = inserts pool _ _ _ g c.args.asid.few c.args.page.canonical c.args.leaf.leaf;
-      rest = same_kept _ _ _ e (inserted_rest pool _ c.args.page.number c.args.leaf.entry.word g c.args.asid.few);
-      apart = same_leaves _ _ e (inserted_sound pool _ c.args.page.number c.args.leaf.entry.word g c.args.asid.few c.args.leaf.leaf);
+      law = inserts pool _ _ _ g place.asid.few place.page.canonical c.args.leaf.leaf;
+      rest = same_kept _ _ _ e (inserted_rest pool _ place.page.number _ g place.asid.few);
+      apart = same_leaves _ _ e (inserted_sound pool _ place.page.number _ g place.asid.few c.args.leaf.leaf);
     }
