@@ -57,6 +57,7 @@ impl Stage {
     }
 
     /// The cause of a fault at this stage, by the kind of the access that was asked for.
+    // The causes are a table by two things, so that no enum has them as its own numbers.
     pub fn cause(self, kind: Kind) -> u8
         ensures { result ≡ cause_of self kind }
     {

@@ -13,7 +13,7 @@ pub struct AsidPage {
 }
 
 impl AsidPage {
-    /// The place of these numbers, if there is such an ASID and the page is canonical.
+    /// The page of this number under the ASID of this number, if there is such an ASID and the page is canonical.
     pub fn new(asid: u16, page: u64) -> Option<AsidPage>
         ensures { MatchOption result ((16 ≤ asid) ⊎ (is_canonical page ≡ false)) (λ place. (place.asid.number ≡ asid) × (place.page.number ≡ page)) }
     {

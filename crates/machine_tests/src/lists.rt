@@ -48,6 +48,8 @@ fn target(address: u64) -> Target {
     Target::new(Mode::Supervisor, address)
 }
 
+// A function for each call, by its name: lists of calls are read as such.
+
 pub fn load(address: u64) -> Call {
     Call::Guest(GuestCall::Load {
         target: target(address),

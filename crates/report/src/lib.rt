@@ -85,6 +85,7 @@ fn answer_line(n: u64, answer: Answer) -> ArrayString<LINE_ROOM>
     line
 }
 
+// The report is lent bytes, C's or the caller's, and `at` is where its next line begins.
 /// Writes the line of the n-th call at `at`, and says where it ends: `None`, and nothing written, where less than
 /// `LINE_ROOM` is left.
 pub fn put_answer(out: &mut [u8], at: usize, n: u64, answer: Answer) -> Option<usize>

@@ -6,7 +6,7 @@ ghost use Rattle.leaves.specs.Lookups.{hit};
 ghost use Rattle.shadow.specs.Steps.{learnt, reply_by, after_by};
 
 use access::Access;
-use layout::{LeafEntry, AsidPage};
+use layout::{AsidPage, LeafEntry};
 use leaves::{answering, has_some_right, leaf_entry};
 use memory::Memory;
 use pool::Pool;

@@ -15,7 +15,7 @@ pub const UNTOUCHED: u64 = 7;
 /// A host root, Sv39x4, whose one leaf maps the first GiB to itself with V, R, W, U, A and D: no fetches.
 pub const NO_FETCH: u64 = 8 << 60 | 8;
 
-/// A step.
+/// A step: data and no closure, since the tests hold their steps in tables.
 #[derive(Clone, Copy)]
 pub enum Step {
     /// A load under an ASID at an address comes to a frame, or faults.

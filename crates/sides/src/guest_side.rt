@@ -71,6 +71,8 @@ impl GuestSide {
         Ok(word_at(memory, access, frame))
     }
 
+    // Each call of the machine has a function of its name, though a fetch differs from a load in its kind alone.
+
     /// The word that the guest loads, or the whole fault.
     pub fn load<M: Memory, T: Translator>(
         &self,

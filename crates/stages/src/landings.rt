@@ -6,6 +6,8 @@ use entry::Page;
 use table::Leaf;
 
 /// The frame that a page comes to at one stage, and the leaf that gave it: none under Bare.
+// That a frame is below 2^52 stands in clauses and is no ghost field: the definitions make landings of numbers alone, and each
+// would have to bring a proof.
 #[derive(Clone, Copy)]
 pub struct Landing {
     pub frame: u64,

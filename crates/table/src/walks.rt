@@ -26,8 +26,8 @@ pub enum WalkFault<F> {
 /// How many bits the index in the first table has: nine, or two more, so that the table fills four frames.
 #[derive(Clone, Copy)]
 pub enum RootIndex {
-    Nine,
-    Eleven,
+    Nine = 9,
+    Eleven = 11,
 }
 
 /// A table to walk, by the frame and the level of its first table; the number of levels is one more.
@@ -43,10 +43,7 @@ impl RootIndex {
     pub fn bits(self) -> u32
         ensures { result ≡ bits_of self }
     {
-        match self {
-            RootIndex::Nine => 9,
-            RootIndex::Eleven => 11,
-        }
+        self as u32
     }
 }
 

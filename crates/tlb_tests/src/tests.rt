@@ -44,7 +44,10 @@ fn load<T: Translator, M: Memory>(
         mxr: true,
         address: u64::from(page) << 12,
     };
-    translator.access(&World::new(memory, roots(asid)?), access).outcome.ok()
+    translator
+        .access(&World::new(memory, roots(asid)?), access)
+        .outcome
+        .ok()
 }
 
 // Loads from the pages in turn, by a table of one leaf.

@@ -1,77 +1,59 @@
 //! Lines of no call: each kind of damage, at each byte and at each field.
 use calls::Call;
 use reader::read_call;
+use std::alloc::{AllocError, Global};
 use std::process::Abort;
+use std::test::Fail;
 
 // Whether the line is of no call.
 fn is_unreadable(line: &[u8]) -> bool {
     matches!(read_call(line), Call::Unreadable)
 }
 
-// Writes a text at `at`, where there is room for it.
-fn put(room: &mut [u8], at: usize, text: &[u8]) {
-    if text.len() <= room.len() && at <= room.len() - text.len() {
-        room[at..at + text.len()].copy_from_slice(text);
-    }
-}
-
-// Whether the line is of no call once the byte at `at` is another.
-fn is_unreadable_with(room: &mut [u8], line: &[u8], at: usize, byte: u8) -> bool {
-    let n = line.len();
-    if n >= room.len() || at >= n {
-        return false;
-    }
-    put(room, 0, line);
-    put(room, at, &[byte]);
-    is_unreadable(&room[0..n])
-}
-
-// Whether the line is of no call once the byte at `at` is gone.
-fn is_unreadable_without(room: &mut [u8], line: &[u8], at: usize) -> bool {
-    let n = line.len();
-    if n >= room.len() || at >= n {
-        return false;
-    }
-    put(room, 0, &line[0..at]);
-    put(room, at, &line[at + 1..n]);
-    is_unreadable(&room[0..n - 1])
-}
-
-// Whether the line is of no call once a byte more stands at `at`.
-fn is_unreadable_after(room: &mut [u8], line: &[u8], at: usize, byte: u8) -> bool {
-    let n = line.len();
-    if n >= room.len() || at > n {
-        return false;
-    }
-    put(room, 0, &line[0..at]);
-    put(room, at, &[byte]);
-    put(room, at + 1, &line[at..n]);
-    is_unreadable(&room[0..n + 1])
+// Whether the line is of no call once so many bytes from `at` on are others.
+fn is_unreadable_with(
+    heap: Global,
+    line: &[u8],
+    at: usize,
+    count: usize,
+    others: &[u8],
+) -> Result<bool, AllocError> {
+    let rest = line.iter().skip(at).skip(count);
+    let damaged: Vec<u8> = line
+        .iter()
+        .take(at)
+        .chain(others)
+        .chain(rest)
+        .copied()
+        .collect(heap)?;
+    Ok(is_unreadable(&damaged))
 }
 
 // Every damage to one line, at each of its bytes.
-fn every_damage(rt: &impl Abort, room: &mut [u8], line: &[u8]) {
+fn every_damage(rt: &impl Abort, heap: Global, line: &[u8]) -> Result<(), AllocError> {
     assert!(rt; !is_unreadable(line), "the line itself");
     for at in 0..line.len() {
         for byte in [0, b'\t', b'\r', b'A', b'F', b'~', 0x80, 0xff] {
-            assert!(rt; is_unreadable_with(room, line, at, byte), "another byte");
-            assert!(rt; is_unreadable_after(room, line, at, byte), "a byte more");
+            let other = is_unreadable_with(heap, line, at, 1, &[byte])?;
+            assert!(rt; other, "another byte");
+            let more = is_unreadable_with(heap, line, at, 0, &[byte])?;
+            assert!(rt; more, "a byte more");
         }
-        assert!(rt; is_unreadable_without(room, line, at), "a byte less");
-        assert!(rt; is_unreadable_after(room, line, at, b' '), "a space more");
-        assert!(rt;
-            is_unreadable_after(room, line, at, b'\n'),
-            "LF before the end"
-        );
+        let less = is_unreadable_with(heap, line, at, 1, &[])?;
+        assert!(rt; less, "a byte less");
+        let space = is_unreadable_with(heap, line, at, 0, b" ")?;
+        assert!(rt; space, "a space more");
+        let end = is_unreadable_with(heap, line, at, 0, b"\n")?;
+        assert!(rt; end, "LF before the end");
     }
-    assert!(rt;
-        is_unreadable_after(room, line, line.len(), b'\n'),
-        "LF after the end"
-    );
+    let end = is_unreadable_with(heap, line, line.len(), 0, b"\n")?;
+    assert!(rt; end, "LF after the end");
+    Ok(())
 }
 
 // Every damage to a line of each call.
-fn damage_to_each_call(rt: &impl Abort, room: &mut [u8]) {
+#[test]
+fn damage_at_each_byte(rt: HostRuntime) -> Result<(), Fail> {
     let lines: [&[u8]; 13] = [
         b"op=l mode=s sum=0 mxr=0 va=0000000000000008\n",
         b"op=f mode=u sum=1 mxr=1 va=00000000000000a0\n",
@@ -88,14 +70,9 @@ fn damage_to_each_call(rt: &impl Abort, room: &mut [u8]) {
         b"op=y\n",
     ];
     for line in lines {
-        every_damage(rt, room, line);
+        every_damage(&rt, rt.alloc(), line)?;
     }
-}
-
-#[test]
-fn damage_at_each_byte(rt: HostRuntime) {
-    let mut room = [0; 80];
-    damage_to_each_call(&rt, &mut room);
+    Ok(())
 }
 
 #[test]

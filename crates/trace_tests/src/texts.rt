@@ -5,7 +5,7 @@ use reader::read_call;
 use std::test::Fail;
 use trace::next_line;
 
-// The call of the host side that the line has.
+// The call of the host side that the line has. For the two sides at once the variant would have to be handed in, as a closure.
 fn host(line: &[u8]) -> Result<HostCall, Fail> {
     match read_call(line) {
         Call::Host(call) => Ok(call),

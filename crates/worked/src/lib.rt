@@ -36,7 +36,9 @@ pub fn calls() -> [Call; 7]
         Call::Guest(load),
         Call::Guest(store),
         Call::Guest(load),
-        Call::Guest(GuestCall::Fence { fence: Fence::EVERYTHING }),
+        Call::Guest(GuestCall::Fence {
+            fence: Fence::EVERYTHING,
+        }),
         Call::Guest(load),
     ]
 }
