@@ -6,7 +6,7 @@ ghost use Rattle.layout.specs.Laws.{Inserts, Removes, RemovesEverywhere, Drops, 
 
 use crate::pools::Pool;
 use crate::words::{FRAME, build, restart};
-use layout::{Asid, LeafEntry, AsidPage, VirtualPage};
+use layout::{Asid, AsidPage, LeafEntry, VirtualPage};
 
 // The words of the fewest frames that a pool works with: the roots, and the tables of one page.
 const MIN_WORDS: usize = 4 * FRAME;
