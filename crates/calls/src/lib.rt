@@ -11,7 +11,8 @@ use refusal::Refusal;
 use translator::Fence;
 
 /// Where a guest's load, store or fetch goes, and in which mode: an access without its kind.
-#[derive(Clone, Copy)]
+// An access does not hold a target in place of these fields: definitions of the walk name them on accesses alone.
+#[derive(Clone, Copy, PartialEq, Eq, Debug)]
 pub struct Target {
     pub mode: Mode,
     pub sum: bool,
@@ -20,7 +21,7 @@ pub struct Target {
 }
 
 /// A call of the host side.
-#[derive(Clone, Copy)]
+#[derive(Clone, Copy, PartialEq, Eq, Debug)]
 pub enum HostCall {
     /// Loads the word at a host address.
     Load { address: u64 },
@@ -35,7 +36,7 @@ pub enum HostCall {
 }
 
 /// A call of the guest side.
-#[derive(Clone, Copy)]
+#[derive(Clone, Copy, PartialEq, Eq, Debug)]
 pub enum GuestCall {
     Load { target: Target },
     Store { target: Target, data: u64 },
@@ -49,7 +50,7 @@ pub enum GuestCall {
 }
 
 /// A call.
-#[derive(Clone, Copy)]
+#[derive(Clone, Copy, PartialEq, Eq, Debug)]
 pub enum Call {
     Host(HostCall),
     Guest(GuestCall),
@@ -58,7 +59,7 @@ pub enum Call {
 }
 
 /// What a call answers.
-#[derive(Clone, Copy)]
+#[derive(Clone, Copy, PartialEq, Eq, Debug)]
 pub enum Answer {
     Done,
     Word(u64),

@@ -22,7 +22,7 @@ pub fn read_hex(bytes: &[u8]) -> Option<u64>
     if bytes.len() > 16 {
         return None;
     }
-    // A loop, in which the digits that were read bound the number: a `try_fold` does not know how many came before.
+    // A loop and not a `try_fold`: that no step overflows follows from how many digits came before, which a fold does not say.
     let mut n = 0;
     for &b in bytes {
         let digit = hex_digit(b)?;

@@ -36,7 +36,8 @@ fn load_word<M: Memory, T: Translator>(
     side.load(memory, translator, target).unwrap_or(0)
 }
 
-// Loads from each address in turn, and adds the words up: in a loop and not a fold, for each load changes the translator.
+// Loads from each address in turn, and adds the words up.
+// In a loop and not a fold: of what a closure changes, here the translator, nothing would be known after the fold.
 fn sum_words<M: Memory, T: Translator>(
     side: &GuestSide,
     memory: &M,

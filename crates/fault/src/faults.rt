@@ -8,7 +8,7 @@ use memory::Outside;
 use table::WalkFault;
 
 /// Why the host stage did not translate a guest-physical address.
-#[derive(Clone, Copy)]
+#[derive(Clone, Copy, PartialEq, Eq, Debug)]
 pub enum HostFault {
     /// The address has a bit above those that the table translates.
     OutOfRange,
@@ -21,14 +21,14 @@ pub enum HostFault {
 }
 
 /// A fault of the host stage, with the guest-physical address that was wanted.
-#[derive(Clone, Copy)]
+#[derive(Clone, Copy, PartialEq, Eq, Debug)]
 pub struct Unreached {
     pub address: u64,
     pub fault: HostFault,
 }
 
 /// Why an access was not granted.
-#[derive(Clone, Copy)]
+#[derive(Clone, Copy, PartialEq, Eq, Debug)]
 pub enum GuestFault {
     /// The address is not a multiple of 8.
     Misaligned,
@@ -43,7 +43,7 @@ pub enum GuestFault {
 }
 
 /// The whole fault: the access that was asked for, and why it was not granted.
-#[derive(Clone, Copy)]
+#[derive(Clone, Copy, PartialEq, Eq, Debug)]
 pub struct Fault {
     pub kind: Kind,
     pub address: u64,

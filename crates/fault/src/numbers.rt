@@ -27,7 +27,7 @@ pub struct Place {
     pub host_level: Option<u8>,
 }
 
-/// The six numbers of a fault.
+/// The six numbers of a fault, as a report has them.
 #[derive(Clone, Copy, PartialEq, Eq, Debug)]
 pub struct Numbers {
     pub cause: u8,
@@ -41,7 +41,7 @@ pub struct Numbers {
     pub host_level: u8,
 }
 
-// The number of a level, or 3 for none.
+// The number of a level in a report, which has 3 for none.
 fn level_number(level: Option<u8>) -> u8
     ensures { result ≡ level_number level }
 {

@@ -32,7 +32,8 @@ impl<'a> Fields<'a> {
     /// The value of the next field, which is then read: `None`, and nothing read, where the next field has another tag, or
     /// none follows on this line.
     pub fn value(&mut self, tag: Tag) -> Option<&'a [u8]>
-        ensures { TakesValue tag (left_of self.old) result (left_of self.new) }
+        ensures line { self.new.line.now ≡ self.old.line.now }
+        ensures value { TakesValue tag (left_of self.old) result (left_of self.new) }
     {
         match field_at(self.line, self.at) {
             Some(step) if step.field.tag == tag && self.stop == Ending::Space => {

@@ -9,7 +9,9 @@ pub struct Asid {
 }
 
 impl Asid {
-    /// The ASID of this number, if there is one. As `new` of std's numbers that are not 0, it gives an `Option`: an error could say no more than that there is no such ASID.
+    /// The ASID of this number, if there is one. As `new` of std's numbers that are not 0, it gives an `Option`: an error could say
+    /// no more than that there is no such ASID.
+    // The test comes first and the value after it, for its ghost field holds only where the test passes.
     pub fn new(number: u16) -> Option<Asid>
         ensures { MatchOption result (16 ≤ number) (λ asid. asid.number ≡ number) }
     {

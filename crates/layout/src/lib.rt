@@ -1,4 +1,5 @@
-//! The layout of a pool: which pools are accepted, ASIDs, pages and leaf entries, the trees of tables, what each change leaves, what a look-up finds, and its laws.
+//! The layout of a pool: which pools are accepted, ASIDs, pages and leaf entries, the trees of tables, what each change leaves, what
+//! a look-up finds, and its laws.
 #![tactic(auto)]
 
 mod asid_pages;

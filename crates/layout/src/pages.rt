@@ -4,6 +4,7 @@ ghost use Rattle.stages.specs.Stages.{is_canonical};
 ghost use Rattle.layout.specs.Tables.{index};
 
 use entry::field;
+use stages::is_canonical;
 
 /// The number of a canonical page: bits 63 to 39 of its addresses equal bit 38.
 #[derive(Clone, Copy)]
@@ -13,12 +14,13 @@ pub struct VirtualPage {
 }
 
 impl VirtualPage {
-    /// The page of this number, if it is canonical. As `new` of std's numbers that are not 0, it gives an `Option`: an error could say no more than that there is no such page.
+    /// The page of this number, if it is canonical. As `new` of std's numbers that are not 0, it gives an `Option`: an error could
+    /// say no more than that there is no such page.
+    // The test comes first and the value after it, for its ghost field holds only where the test passes.
     pub fn new(number: u64) -> Option<VirtualPage>
         ensures { MatchOption result (is_canonical number ≡ false) (λ page. page.number ≡ number) }
     {
-        let high = number >> 26;
-        if high == 0 || high == (1 << 26) - 1 {
+        if is_canonical(number) {
             Some(VirtualPage { number })
         } else {
             None

@@ -5,7 +5,7 @@ ghost use Rattle.layout.specs.Tables.{IsFrame, named};
 // The roots are the words before this index.
 const ROOTS: usize = 16;
 
-/// The word at index `i`; 0 where there is none, as in the definitions: a pool that is too short names no table.
+/// The word at index `i`; 0 where there is none, as definitions read a list past its end.
 pub fn word(words: &[u64], i: usize) -> u64
     ensures { result ≡ slice_index words.now i }
 {

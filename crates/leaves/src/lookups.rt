@@ -25,7 +25,7 @@ pub fn answering(pool: &Pool, root: GuestRoot, access: Access) -> Option<Grant>
     if !access.is_aligned() {
         return None;
     }
-    let _table = root.table()?;
-    let grant = grant_at(pool, root.asid(), access.address >> 12)?;
+    let asid = root.paged_asid()?;
+    let grant = grant_at(pool, asid, access.address >> 12)?;
     grant.allows(access).then_some(grant)
 }

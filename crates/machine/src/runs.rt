@@ -25,7 +25,9 @@ pub struct Ended {
 ///
 /// - `played`: the run is the translator's own steps in a row.
 /// - `agrees`: if every access is settled, each answer and the final words, roots and side are the plain machine's.
-/// - `faithful`: settled or not, an access that is not refused answers the walk's own whole fault at that moment, or goes to a frame that the walk gives then or that an earlier bearing moment gives with no covering fence since; every other call goes as in the plain machine.
+/// - `faithful`: settled or not, an access that is not refused answers the walk's own whole fault at that moment, or goes to a
+///   frame that the walk gives then or that an earlier bearing moment gives with no covering fence since; every other call goes as
+///   in the plain machine.
 /// - `unchanged`: want of memory for the answers refuses before anything has changed.
 pub fn run<M: Memory, T: Translator>(
     heap: Global,

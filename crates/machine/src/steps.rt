@@ -32,10 +32,7 @@ fn host_step<M: Memory, T: Translator>(
         HostCall::Load { address } => side.load(memory, address).into(),
         HostCall::Store { address, data } => side.store(memory, address, data).into(),
         HostCall::Root { register } => side.root(register).into(),
-        HostCall::Fence => {
-            side.fence(translator);
-            Answer::Done
-        }
+        HostCall::Fence => side.fence(translator).into(),
         HostCall::Enter => return (Machine::AtGuest(side.enter()), Answer::Done),
     };
     (Machine::AtHost(side), answer)
@@ -73,17 +70,13 @@ impl Machine {
         ensures stepped { Step T.Translator (moment_of (M.Memory.words memory.old) self) translator.old call result.1 (moment_of (M.Memory.words memory.new) result.0) translator.new }
         ensures kept { Keeps M.Memory memory.old memory.new }
     {
-        match self {
-            Machine::AtHost(side) => match call {
-                Call::Host(call) => host_step(side, memory, translator, call),
-                Call::Guest(_) => (Machine::AtHost(side), OTHER_SIDE),
-                Call::Unreadable => (Machine::AtHost(side), UNREADABLE),
-            },
-            Machine::AtGuest(side) => match call {
-                Call::Host(_) => (Machine::AtGuest(side), OTHER_SIDE),
-                Call::Guest(call) => guest_step(side, memory, translator, call),
-                Call::Unreadable => (Machine::AtGuest(side), UNREADABLE),
-            },
+        match (self, call) {
+            (Machine::AtHost(side), Call::Host(call)) => host_step(side, memory, translator, call),
+            (Machine::AtGuest(side), Call::Guest(call)) => guest_step(
+                side, memory, translator, call,
+            ),
+            (machine, Call::Unreadable) => (machine, UNREADABLE),
+            (machine, _) => (machine, OTHER_SIDE),
         }
     }
 }

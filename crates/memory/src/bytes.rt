@@ -1,4 +1,4 @@
-// Bytes handed in.
+//! Bytes handed in.
 ghost use Rattle.std.specs.Prelude.{◌≡◌, ◌+◌, ◌*◌, ◌≤◌, [], ◌∷◌, length};
 ghost use Rattle.memory.specs.Bytes.{shown_words, unshown_bytes, word_at};
 
@@ -34,8 +34,9 @@ impl Memory for Bytes<'_> {
     }
 }
 
-// A lent slice is the same memory. It differs from a slice of words in how a word is read and written, which is all that its
-// methods do, so that one impl for both would be a trait of as many. Two slices that are joined as they are come back to their lenders with what they hold.
+// A lent slice is the same memory. It differs from a slice of words in how a word is read and written, and its methods do nothing
+// else: one impl for both would rest on a trait with the same two methods for each. Two slices that are joined as they are come
+// back to their lenders with what they hold.
 impl Memory for &mut [u8] {
     ghost words = { λ s. shown_words s.now };
 

@@ -1,4 +1,4 @@
-// How much of what is stored a memory shows.
+//! How much of what is stored a memory shows.
 ghost use Rattle.std.specs.Prelude.{◌≡◌, ◌/◌, min};
 ghost use Rattle.memory.specs.Words.{shown_length};
 

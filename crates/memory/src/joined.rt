@@ -1,4 +1,4 @@
-// Two memories joined.
+//! Two memories joined.
 ghost use Rattle.std.specs.Prelude.{◌++◌};
 ghost use Rattle.memory.specs.Words.{shown, unshown};
 

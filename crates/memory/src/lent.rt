@@ -1,4 +1,4 @@
-// A memory lent.
+//! A memory lent.
 ghost use Rattle.std.specs.Prelude.{◌∷◌};
 
 use crate::{Memory, Outside};

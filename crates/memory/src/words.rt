@@ -1,4 +1,4 @@
-// Words handed in.
+//! Words handed in.
 ghost use Rattle.std.specs.Prelude.{[], ◌∷◌};
 ghost use Rattle.memory.specs.Words.{shown, unshown};
 
@@ -6,8 +6,8 @@ use crate::frames::{shown_frames, shown_words};
 use crate::{Memory, Outside};
 
 /// Lent words, as a memory of their first whole frames.
-// It stands beside `Bytes`, and both beside the slices: of a slice that is lent on as a memory, without a struct around it, it
-// could not be proved that the lender has what the memory held at its end.
+// `Words` and `Bytes` stand beside the slices that they hold. With a slice alone, a function that is lent one and lends it on as a
+// memory, as a play does, could not be proved to leave in it what the memory held at its end.
 #[derive(Drop)]
 pub struct Words<'a> {
     pub words: &'a mut [u64],

@@ -1,7 +1,7 @@
 //! The words of a pool, as they are written.
 //!
 //! These functions take the words alone and say what they need of them. As methods of `Pool` they would have to keep its
-//! ghost fields after each table, which one lemma now gives for a whole insertion; and `new` restarts words that are no pool yet.
+//! ghost fields after each table, which hold again when a whole insertion is done; and `new` restarts words that are no pool yet.
 ghost use Rattle.std.specs.Prelude.{◌≡◌, ◌+◌, ◌*◌, ◌<◌, ◌≤◌, true, length};
 ghost use Rattle.layout.specs.Tables.{frames as frames_of, next as next_of, names, path_of, leaf_table};
 ghost use Rattle.layout.specs.Changes.{cleared, reset as reset_of, naming, taken, grown, built, has_room};

@@ -7,7 +7,7 @@ ghost use Rattle.refusal.specs.declared.Refusal.TheVariants.{GuestRoot as bad_gu
 
 use crate::guest_roots::GuestRoot;
 use crate::host_roots::HostRoot;
-use entry::Frame;
+use entry::{Frame, field};
 use refusal::Refusal;
 use table::{RootIndex, Table};
 
@@ -26,7 +26,7 @@ fn root_frame(register: u64) -> Frame
     ensures { result.number ≡ root_of register }
 {
     Frame {
-        number: register % (1 << 44),
+        number: field(register, 0, 44),
     }
 }
 
@@ -34,7 +34,7 @@ fn root_frame(register: u64) -> Frame
 fn is_paged(register: u64) -> bool
     ensures { result ≡ is_paged register }
 {
-    register >> 60 == 8
+    field(register, 60, 4) == 8
 }
 
 // The table of a register, or none under Bare.
@@ -55,7 +55,7 @@ impl TryFrom<u64> for GuestRoot {
     ghost try_from_gives = { λ register result. DecodesTo (is_guest_root register) (λ root. root.register ≡ register) bad_guest result };
 
     fn try_from(register: u64) -> Result<GuestRoot, Refusal> {
-        let paged = is_paged(register) && (register >> 44) % (1 << 16) <= 15;
+        let paged = is_paged(register) && field(register, 44, 16) <= 15;
         if register == 0 || paged {
             Ok(GuestRoot { register })
         } else {
@@ -79,7 +79,14 @@ impl GuestRoot {
         ensures value { result ≡ asid_of self.register }
         ensures few { result ≤ 15 }
     {
-        ((self.register >> 44) % (1 << 16)) as u16
+        field(self.register, 44, 16) as u16
+    }
+
+    /// The ASID of a root that is not Bare.
+    pub fn paged_asid(self) -> Option<u16>
+        ensures { result ≡ cond (is_paged self.register) (Some (asid_of self.register)) None }
+    {
+        is_paged(self.register).then_some(self.asid())
     }
 }
 
@@ -90,7 +97,7 @@ impl TryFrom<u64> for HostRoot {
     ghost try_from_gives = { λ register result. DecodesTo (is_host_root register) (λ root. root.register ≡ register) bad_host result };
 
     fn try_from(register: u64) -> Result<HostRoot, Refusal> {
-        let paged = is_paged(register) && (register >> 44) % (1 << 16) == 0 && register % 4 == 0;
+        let paged = is_paged(register) && field(register, 44, 16) == 0 && register % 4 == 0;
         if register == 0 || paged {
             Ok(HostRoot { register })
         } else {

@@ -85,9 +85,9 @@ fn answer_line(n: u64, answer: Answer) -> ArrayString<LINE_ROOM>
     line
 }
 
-// The report is lent bytes, C's or the caller's, and `at` is where its next line begins.
 /// Writes the line of the n-th call at `at`, and says where it ends: `None`, and nothing written, where less than
 /// `LINE_ROOM` is left.
+// A report is bytes that a caller lends, C among them, so that the place of its next line is a number of its own.
 pub fn put_answer(out: &mut [u8], at: usize, n: u64, answer: Answer) -> Option<usize>
     ensures { PutsLine out.old at (lines.answer_line n answer) out.new result }
 {

@@ -29,7 +29,7 @@ fn place(access: Access, frame: u16) -> u64
     frame as u64 * 512 + access.word() as u64
 }
 
-// The word that an access goes to in a frame.
+// The word that an access goes to in a frame; 0 past the end of a memory that has become shorter, as definitions read a list.
 fn word_at<M: Memory>(memory: &M, access: Access, frame: u16) -> u64
     ensures { result ≡ slice_index (M.Memory.words memory.now) (place_of access frame) }
 {

@@ -12,4 +12,5 @@ pub use hosts::{GuestMemory, HostMemory};
 pub use landings::Landing;
 pub use laws::both_bare;
 pub use outcomes::Translation;
+pub use translations::is_canonical;
 pub use worlds::World;

@@ -2,7 +2,7 @@
 ghost use Rattle.std.specs.Prelude.{◌≡◌, ℕ, ◌^◌, ◌<◌, ◌↔◌, IfOk, Ok};
 ghost use Rattle.stages.specs.declared.outcomes.Translation.{Translation};
 ghost use Rattle.stages.specs.Paths.{Granted};
-ghost use Rattle.stages.specs.Stages.{guest_path, guest_stage, final_stage, two_stages, translate_of};
+ghost use Rattle.stages.specs.Stages.{is_canonical, guest_path, guest_stage, final_stage, two_stages, translate_of};
 
 use crate::hosts::GuestMemory;
 use crate::landings::Landing;
@@ -13,6 +13,14 @@ use entry::Page;
 use fault::{Fault, GuestFault, Unreached};
 use memory::Memory;
 use table::walk;
+
+/// Whether the page of this number is canonical: bits 63 to 39 of its addresses equal bit 38.
+pub fn is_canonical(page: u64) -> bool
+    ensures { result ≡ is_canonical page }
+{
+    let high = page >> 26;
+    high == 0 || high == (1 << 26) - 1
+}
 
 impl<'a, M: Memory> World<'a, M> {
     // The guest's physical memory.
@@ -34,8 +42,7 @@ impl<'a, M: Memory> World<'a, M> {
         let Some(table) = self.roots.guest.table() else {
             return Ok(Landing::bare(page));
         };
-        let high = page.number >> 26;
-        if high != 0 && high != (1 << 26) - 1 {
+        if !is_canonical(page.number) {
             return Err(GuestFault::NotCanonical);
         }
         let leaf = walk(&self.guest_memory(), table, page)?;

@@ -7,7 +7,10 @@ ghost use Rattle.table.specs.Chain.{FollowsChain};
 
 use entry::{Entry, Frame, Page, field, low};
 
-/// Where a walk ends well: the frame of the page, the level of the leaf, its entry, and whether an entry on the way, the leaf included, was global.
+/// Where a walk ends well: the frame of the page, the level of the leaf, its entry, and whether an entry on the way, the leaf
+/// included, was global.
+// That the frame is below 2^52 stands in clauses and is no ghost field: the definitions make leaves of numbers alone, and each
+// would have to bring a proof.
 #[derive(Clone, Copy, PartialEq, Eq, Debug)]
 pub struct Leaf {
     pub frame: u64,
@@ -87,7 +90,7 @@ impl Leaf {
     }
 }
 
-// The walk, a level at a time from the first table down.
+// The walk, a level at a time from the first table down. What it says of chains follows once, in `walk`, for each of its ends.
 fn descend<S: TableSource>(
     source: &S,
     table: Table,
@@ -103,7 +106,7 @@ fn descend<S: TableSource>(
             .read(frame, index(table, page, level))
             .map_err(|fault| WalkFault::Source { level, fault })?;
         let entry = Entry { word };
-        global = global | entry.is_global();
+        global |= entry.is_global();
         if entry.stops(level) {
             return Err(WalkFault::Stopped { level });
         }
@@ -112,11 +115,12 @@ fn descend<S: TableSource>(
         }
         frame = entry.frame();
     }
-    // a pointer of level 0 has stopped the walk
+    // A pointer of level 0 has stopped the walk.
     unreachable()
 }
 
-/// The walk of `table` for `page`: a leaf exactly if a chain of entries leads there from the root, a fault at a level exactly if the chain ends there.
+/// The walk of `table` for `page`: a leaf exactly if a chain of entries leads there from the root, a fault at a level exactly if
+/// the chain ends there.
 pub fn walk<S: TableSource>(
     source: &S,
     table: Table,

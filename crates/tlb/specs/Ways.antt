@@ -9,10 +9,6 @@ use Rattle.translator.specs.Grants.{serves}
 use Rattle.translator.specs.Fences.{covers_grant}
 use Rattle.tlb.specs.declared.ways.Set.{Set}
 
--- the first place whose item passes a test
-unfoldable pub place : {X : Type 0} → (X → Bool) → List X → Option ℕ
-place test xs = position test xs
-
 -- the way holds a grant that can answer the access under this ASID
 abbrev pub is_serving : ℕ → Access → Option Grant → Bool
 is_serving asid a None = false

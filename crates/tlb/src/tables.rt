@@ -13,7 +13,8 @@ use translator::{Fence, Grant};
 const SETS: u64 = 16;
 
 /// Sixteen sets, each grant in the set of its page, each counter below 4.
-// On the heap that `Tlb::new` is handed: an array here would need no length, and be moved whole wherever a buffer is.
+// A `Vec`, on the heap that `Tlb::new` is handed: an array would need no length, but is moved whole wherever a buffer is, and of a
+// set lent from it nothing would be known afterwards.
 #[derive(Drop)]
 pub(crate) struct Table {
     pub(crate) sets: Vec<Set>,
@@ -35,11 +36,12 @@ impl Table {
     pub(crate) fn find(&self, roots: Roots, access: Access) -> Option<Grant>
         ensures { result ≡ hit (world_of [] roots) access self.now.sets.items }
     {
-        if !access.is_aligned() || roots.guest.table().is_none() {
+        if !access.is_aligned() {
             return None;
         }
+        let asid = roots.guest.paged_asid()?;
         let page = access.address >> 12;
-        self.sets[(page % SETS) as usize].find(roots.guest.asid(), access)
+        self.sets[(page % SETS) as usize].find(asid, access)
     }
 
     /// Stores the grant, if there is one, in the set of its page.

@@ -49,7 +49,7 @@ impl Set {
     }
 
     /// The grant of the first way that can answer the access under this ASID.
-    // By its place: a chain through `flatten` was measured at one and a half times as long for a hit.
+    // By its place: the chain `.copied().flatten().find(..)` takes one and a half times as long for a hit.
     pub(crate) fn find(&self, asid: u16, access: Access) -> Option<Grant>
         ensures { result ≡ first_serving asid access self.now.ways }
     {

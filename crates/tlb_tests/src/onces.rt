@@ -25,11 +25,11 @@ impl Once {
     fn answering(&self, roots: Roots, access: Access) -> Option<Grant>
         ensures { result ≡ answering (world_of [] roots) access (option_to_list self.now.grant) }
     {
-        if !access.is_aligned() || roots.guest.table().is_none() {
+        if !access.is_aligned() {
             return None;
         }
-        self.grant
-            .filter(|grant| grant.serves(roots.guest.asid(), access))
+        let asid = roots.guest.paged_asid()?;
+        self.grant.filter(|grant| grant.serves(asid, access))
     }
 }
 

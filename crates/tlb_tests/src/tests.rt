@@ -147,7 +147,7 @@ fn a_fence_empties_what_it_covers(rt: HostRuntime) -> Result<(), Fail> {
     let mut tlb = Tlb::new(rt.alloc(), Nested)?;
     visit(&rt, rt.alloc(), &mut tlb, LEAF, 1, &[1, 2, 3])?;
     visit(&rt, rt.alloc(), &mut tlb, LEAF, 2, &[1, 2, 3])?;
-    // the page of an address under one ASID, then under all
+    // The page of an address under one ASID, then under all
     tlb.fence(Fence {
         address: Some(0x1ff8),
         asid: Some(1),
@@ -160,7 +160,7 @@ fn a_fence_empties_what_it_covers(rt: HostRuntime) -> Result<(), Fail> {
     assert_eq!(rt; recall(&mut tlb, 2, &[2]), [None]);
     assert_eq!(rt; recall(&mut tlb, 1, &[3]), [Some(3)]);
     assert_eq!(rt; recall(&mut tlb, 2, &[1, 3]), [Some(1), Some(3)]);
-    // one ASID, then everything
+    // One ASID, then everything
     tlb.fence(Fence {
         address: None,
         asid: Some(2),
@@ -182,7 +182,7 @@ fn a_buffer_fills_from_the_buffer_below(rt: HostRuntime) -> Result<(), Fail> {
     let mut upper = Tlb::new(rt.alloc(), lower)?;
     assert_eq!(rt; recall(&mut upper, 1, &[5]), [Some(5)]);
     assert_eq!(rt; recall(&mut upper, 1, &[7]), [None]);
-    // a fence reaches both
+    // A fence reaches both
     upper.fence(Fence {
         address: Some(5 << 12),
         asid: None,
@@ -199,7 +199,7 @@ fn a_buffer_keeps_what_is_forgotten_below(rt: HostRuntime) -> Result<(), Fail> {
     let mut once = Once { grant: None };
     visit(&rt, rt.alloc(), &mut once, LEAF, 1, &[5])?;
     let mut tlb = Tlb::new(rt.alloc(), once)?;
-    // the grant below answers once, and then that of the buffer does
+    // The grant below answers once, and then that of the buffer does
     assert_eq!(rt; recall(&mut tlb, 1, &[5, 5]), [Some(5), Some(5)]);
     let mut once = tlb.into_below();
     assert_eq!(rt; recall(&mut once, 1, &[5]), [None]);

@@ -12,6 +12,7 @@ pub fn next_line(text: &[u8]) -> Option<(&[u8], &[u8])>
 }
 
 /// The lines that are left of a text.
+// Over `split_inclusive`, with the list of lines as what is left: callers' proofs count and follow that list.
 #[derive(Clone, Drop)]
 pub struct Lines<'a> {
     rest: &'a [u8],

@@ -1,99 +1,97 @@
 //! Each kind of call, read.
 use access::Mode;
-use calls::{Call, GuestCall, HostCall};
+use calls::{Call, GuestCall, HostCall, Target};
 use reader::read_call;
 use std::test::Fail;
 use trace::next_line;
+use translator::Fence;
 
-// The call of the host side that the line has. For the two sides at once the variant would have to be handed in, as a closure.
-fn host(line: &[u8]) -> Result<HostCall, Fail> {
-    match read_call(line) {
-        Call::Host(call) => Ok(call),
-        _ => Err(Fail::new("no call of the host side")),
-    }
-}
-
-// The call of the guest side that the line has.
-fn guest(line: &[u8]) -> Result<GuestCall, Fail> {
-    match read_call(line) {
-        Call::Guest(call) => Ok(call),
-        _ => Err(Fail::new("no call of the guest side")),
+// The target of a guest's call.
+fn target(mode: Mode, sum: bool, mxr: bool, address: u64) -> Target {
+    Target {
+        mode,
+        sum,
+        mxr,
+        address,
     }
 }
 
 #[test]
-fn host_calls(rt: HostRuntime) -> Result<(), Fail> {
-    let HostCall::Load { address } = host(b"op=r pa=0000000000000ff8\n")? else {
-        return Err(Fail::new("no host load"));
-    };
-    assert_eq!(rt; address, 0xff8);
-    let HostCall::Store { address, data } = host(
-        b"op=w pa=0000000000001000 data=00000000000000c7\n",
-    )?
-    else {
-        return Err(Fail::new("no host store"));
-    };
-    assert_eq!(rt; address, 0x1000);
-    assert_eq!(rt; data, 0xc7);
-    let HostCall::Root { register } = host(b"op=h data=8000000000000004\n")? else {
-        return Err(Fail::new("no host root"));
-    };
-    assert_eq!(rt; register, 0x8000000000000004);
-    assert!(rt; matches!(host(b"op=y\n")?, HostCall::Fence));
-    assert!(rt; matches!(host(b"op=e\n")?, HostCall::Enter));
-    Ok(())
+fn host_calls(rt: HostRuntime) {
+    let cases: [(&[u8], HostCall); 5] = [
+        (
+            b"op=r pa=0000000000000ff8\n",
+            HostCall::Load { address: 0xff8 },
+        ),
+        (
+            b"op=w pa=0000000000001000 data=00000000000000c7\n",
+            HostCall::Store {
+                address: 0x1000,
+                data: 0xc7,
+            },
+        ),
+        (
+            b"op=h data=8000000000000004\n",
+            HostCall::Root {
+                register: 0x8000000000000004,
+            },
+        ),
+        (b"op=y\n", HostCall::Fence),
+        (b"op=e\n", HostCall::Enter),
+    ];
+    for (line, call) in cases {
+        assert_eq!(rt; read_call(line), Call::Host(call));
+    }
 }
 
 #[test]
-fn guest_calls(rt: HostRuntime) -> Result<(), Fail> {
-    let GuestCall::Load { target } = guest(b"op=l mode=s sum=0 mxr=1 va=0000000000000008\n")? else {
-        return Err(Fail::new("no load"));
-    };
-    assert!(rt; matches!(target.mode, Mode::Supervisor) && !target.sum && target.mxr);
-    assert_eq!(rt; target.address, 8);
-    let GuestCall::Store { target, data } = guest(
-        b"op=s mode=u sum=1 mxr=0 va=ffffffffffffffff data=0123456789abcdef\n",
-    )?
-    else {
-        return Err(Fail::new("no store"));
-    };
-    assert!(rt; matches!(target.mode, Mode::User) && target.sum && !target.mxr);
-    assert_eq!(rt; target.address, 0xffffffffffffffff);
-    assert_eq!(rt; data, 0x0123456789abcdef);
-    assert!(rt;
-        matches!(
-            guest(b"op=f mode=s sum=0 mxr=0 va=0000000000000000\n")?,
-            GuestCall::Fetch { .. }
-        )
-    );
-    assert!(rt;
-        matches!(
-            guest(b"op=g data=0000000000000000\n")?,
-            GuestCall::Root { .. }
-        )
-    );
-    assert!(rt; matches!(guest(b"op=x\n")?, GuestCall::Leave));
-    Ok(())
+fn guest_calls(rt: HostRuntime) {
+    let cases: [(&[u8], GuestCall); 5] = [
+        (
+            b"op=l mode=s sum=0 mxr=1 va=0000000000000008\n",
+            GuestCall::Load {
+                target: target(Mode::Supervisor, false, true, 8),
+            },
+        ),
+        (
+            b"op=s mode=u sum=1 mxr=0 va=ffffffffffffffff data=0123456789abcdef\n",
+            GuestCall::Store {
+                target: target(Mode::User, true, false, 0xffffffffffffffff),
+                data: 0x0123456789abcdef,
+            },
+        ),
+        (
+            b"op=f mode=s sum=0 mxr=0 va=0000000000000000\n",
+            GuestCall::Fetch {
+                target: target(Mode::Supervisor, false, false, 0),
+            },
+        ),
+        (
+            b"op=g data=0000000000000000\n",
+            GuestCall::Root { register: 0 },
+        ),
+        (b"op=x\n", GuestCall::Leave),
+    ];
+    for (line, call) in cases {
+        assert_eq!(rt; read_call(line), Call::Guest(call));
+    }
 }
 
 #[test]
-fn guest_fences(rt: HostRuntime) -> Result<(), Fail> {
-    let GuestCall::Fence { fence } = guest(b"op=z va=0000000000001fff asid=ffff\n")? else {
-        return Err(Fail::new("no fence"));
-    };
-    assert_eq!(rt; fence.address, Some(0x1fff));
-    assert_eq!(rt; fence.asid, Some(0xffff));
-    let GuestCall::Fence { fence } = guest(b"op=z va=all asid=000f\n")? else {
-        return Err(Fail::new("no fence"));
-    };
-    assert_eq!(rt; fence.address, None);
-    assert_eq!(rt; fence.asid, Some(15));
-    let GuestCall::Fence { fence } = guest(b"op=z va=all asid=all\n")? else {
-        return Err(Fail::new("no fence"));
-    };
-    assert_eq!(rt; fence.address, None);
-    assert_eq!(rt; fence.asid, None);
-    Ok(())
+fn guest_fences(rt: HostRuntime) {
+    let cases: [(&[u8], Option<u64>, Option<u16>); 3] = [
+        (
+            b"op=z va=0000000000001fff asid=ffff\n",
+            Some(0x1fff),
+            Some(0xffff),
+        ),
+        (b"op=z va=all asid=000f\n", None, Some(15)),
+        (b"op=z va=all asid=all\n", None, None),
+    ];
+    for (line, address, asid) in cases {
+        let fence = Fence { address, asid };
+        assert_eq!(rt; read_call(line), Call::Guest(GuestCall::Fence { fence }));
+    }
 }
 
 #[test]

@@ -58,14 +58,10 @@ fn fullest(asid: u16, access: Access, translation: Translation) -> Option<Grant>
 pub fn walked<M: Memory>(world: &World<'_, M>, access: Access) -> Reply
     ensures { result ≡ walked_reply world.now access }
 {
-    match world.translate(access) {
-        Ok(translation) => Reply {
-            outcome: Ok(translation.frame),
-            grant: fullest(world.roots().guest.asid(), access, translation),
-        },
-        Err(fault) => Reply {
-            outcome: Err(fault),
-            grant: None,
-        },
+    let asid = world.roots().guest.asid();
+    let walked = world.translate(access);
+    Reply {
+        outcome: walked.map(|to| to.frame),
+        grant: walked.ok().and_then(|to| fullest(asid, access, to)),
     }
 }

@@ -13,11 +13,10 @@ fn number_of(value: &[u8], k: usize) -> Option<u64>
     ensures reads { ReadsBy (hex_of k) value.now result }
     ensures small { Fits k result }
 {
-    if value.len() == k {
-        read_hex(value)
-    } else {
-        None
+    if value.len() != k {
+        return None;
     }
+    read_hex(value)
 }
 
 // A word: 16 digits.

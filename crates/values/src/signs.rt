@@ -22,9 +22,9 @@ impl Value for Mode {
     ghost text = { mode_text };
 
     fn read(value: &[u8]) -> Option<Mode> {
-        match u8::read(value)? as char {
-            's' => Some(Mode::Supervisor),
-            'u' => Some(Mode::User),
+        match value {
+            b"s" => Some(Mode::Supervisor),
+            b"u" => Some(Mode::User),
             _ => None,
         }
     }
@@ -35,9 +35,9 @@ impl Value for bool {
     ghost text = { bit_text };
 
     fn read(value: &[u8]) -> Option<bool> {
-        match u8::read(value)? as char {
-            '0' => Some(false),
-            '1' => Some(true),
+        match value {
+            b"0" => Some(false),
+            b"1" => Some(true),
             _ => None,
         }
     }

@@ -9,7 +9,6 @@ use Rattle.translator.specs.declared.nested.Nested.{Nested}
 use Rattle.translator.specs.Walked.{walked_reply}
 use Rattle.tlb.specs.declared.ways.Set.{Set}
 use Rattle.tlb.specs.declared.layers.Tlb.{Tlb}
-use Rattle.tlb.specs.Ways.{place}
 use Rattle.tlb.specs.Tables.{hit, stored, sets_after, everything, empty_sets}
 use Rattle.tlb.specs.Layer.{sets_of, served, Hit, Miss}
 use Rattle.calls.specs.declared.Call.{Call}
@@ -80,7 +79,7 @@ ran_buffered m s (c ∷ cs) (x ∷ xs) end t (n, u, h, rest) =
 
 -- the worked calls
 worked : buffered (start two_frames.words) empty_sets editing ≡ remembering
-unfolding buffered place translate_of walk_from
+unfolding buffered translate_of walk_from
 worked = refl
 
 pub remembers : Remembers two_frames.words

@@ -3,4 +3,4 @@ use Rattle.operands.proofs.reads.take.Goals as goal
 
 pub returns : goal.returns
 returns g c =
-    took g.V.Value.text c.args.tag _ c.in_ok-value.field-0.now c.value.new.self c.read.result c.in_ok-value.ensures c.read.ensures
+    took g.V.Value.text c.args.tag _ c.in_ok-value.field-0.now c.value.new.self c.read.result c.in_ok-value.ensures.value c.read.ensures
