@@ -71,7 +71,7 @@ fn sum_loads<M: Memory, T: Translator>(
     Ok(sum_words(&guest, memory, translator, addresses))
 }
 
-// Loads over the translator that was made, and hands back the sum or the number of a refusal. No register is judged where
+// As for plays, but to C's other result: loads over the translator that was made, and hands back the sum or the number of a refusal. No register is judged where
 // none could be made.
 #[tactic(auto, unfolding(crate::specs::Loads::LoadsOn))]
 fn load_on<M: Memory, T: Translator + Drop>(

@@ -11,7 +11,7 @@ use crate::tags::Tag;
 #[derive(Drop)]
 pub struct Fields<'a> {
     pub line: &'a [u8],
-    /// Where the next field begins.
+    /// Where the next field begins. A field says the place of its value in the whole line, so that the rest alone would not do.
     pub at: usize,
     /// What ended the last value: a space before the first field.
     pub stop: Ending,

@@ -20,7 +20,7 @@ fn unmap(pool: &mut Pool, page: VirtualPage, asid: Option<u16>)
     }
 }
 
-// Clears every leaf, of one ASID or of all; an ASID over 15 has no tables.
+// Clears every leaf, of one ASID or of all: roots and not leaves, so that it is no twin of the function above; an ASID over 15 has no tables.
 fn empty(pool: &mut Pool, asid: Option<u16>)
     ensures { pool.new.words.items ≡ emptied pool.old.words.items asid }
 {

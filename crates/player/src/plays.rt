@@ -40,6 +40,7 @@ impl Cursor {
     {
         let (machine, answer) = self.machine.call(memory, translator, read_call(line));
         let count = self.count + 1;
+        // There is room: a report is judged by its length before anything is played.
         let Some(end) = put_answer(report, self.end, count, answer) else {
             unreachable()
         };

@@ -19,7 +19,8 @@ impl Pool {
         words
     }
 
-    // The frame of the root table of an ASID, if it has one.
+    // The frame of the root table of an ASID, if it has one. That a frame is below the next unused one is a fact of it and of this
+    // pool, which no type of a frame could say.
     pub(crate) fn root(&self, asid: Asid) -> Option<usize>
         ensures value { IsFrame (slice_index self.now.words.items asid.number) result }
         ensures small { IfSome result (λ frame. frame < next_of self.now.words.items) }

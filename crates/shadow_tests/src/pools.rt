@@ -1,4 +1,4 @@
-//! Pools of every size, exhaustion, fences, every ASID, and both halves of the address space, looked at by loads.
+//! What is seen by loads alone, and not by the words of the pool as in the other tests: pools of every size, exhaustion, fences, every ASID, and both halves of the address space, looked at by loads.
 use crate::steps::{put, reach};
 use access::{Access, Kind, Mode};
 use layout::check_pool;

@@ -4,7 +4,6 @@ use memory::Words;
 use registers::{GuestRoot, HostRoot, Roots};
 use shadow::Shadow;
 use stages::World;
-use std::alloc::Global;
 use std::process::Abort;
 use std::test::Fail;
 use translator::{Fence, Translator};
@@ -107,13 +106,12 @@ fn goes<T: Translator>(translator: &mut T, words: &mut [u64], host: u64, step: S
 
 /// Takes the steps in order, in a memory of twelve frames.
 pub fn follow<T: Translator>(
-    rt: &impl Abort,
-    heap: Global,
+    rt: &(impl Abort + AllocGlobal),
     translator: &mut T,
     host: u64,
     steps: &[Step],
 ) -> Result<(), Fail> {
-    let mut words = vec![in heap; 0u64; 6144]?;
+    let mut words = vec![in rt.alloc(); 0u64; 6144]?;
     write_tables(words.as_mut_slice());
     for step in steps {
         assert!(rt; goes(translator, words.as_mut_slice(), host, *step));
@@ -131,16 +129,15 @@ fn check_words(rt: &impl Abort, pool: &[u64], wanted: &[(usize, u64)], rest: usi
 
 /// Takes the steps with a shadow over a pool of so many words, and checks the pool afterwards.
 pub fn check_shadow(
-    rt: &impl Abort,
-    heap: Global,
+    rt: &(impl Abort + AllocGlobal),
     len: usize,
     host: u64,
     steps: &[Step],
     wanted: &[(usize, u64)],
     rest: usize,
 ) -> Result<(), Fail> {
-    let mut shadow = Shadow::new(vec![in heap; UNTOUCHED; len]?);
-    follow(rt, heap, &mut shadow, host, steps)?;
+    let mut shadow = Shadow::new(vec![in rt.alloc(); UNTOUCHED; len]?);
+    follow(rt, &mut shadow, host, steps)?;
     check_words(rt, &shadow.into_pool(), wanted, rest);
     Ok(())
 }

@@ -75,10 +75,10 @@ static FILLED: [(usize, u64); 9] = [
 #[test]
 fn pools_of_every_size(rt: HostRuntime) -> Result<(), Fail> {
     for len in [0, 511, 512, 1536, 2047] {
-        check_shadow(&rt, rt.alloc(), len, 0, &IDLE, &[], 0)?;
+        check_shadow(&rt, len, 0, &IDLE, &[], 0)?;
     }
     for len in [2048, 2100, 2560, 4096, 262_144, 262_665] {
-        check_shadow(&rt, rt.alloc(), len, 0, &FILLING, &FILLED, 2048)?;
+        check_shadow(&rt, len, 0, &FILLING, &FILLED, 2048)?;
     }
     Ok(())
 }
@@ -98,9 +98,9 @@ static ENOUGH: [Step; 2] = [Step::Load(1, 0, Some(4)), Step::Load(1, 0x20_0000, 
 #[test]
 fn full_pools_are_reset(rt: HostRuntime) -> Result<(), Fail> {
     let words = [(1, 0), (2, 1), (16, 4), (512, 0x801), (1536, 0x10cf)];
-    check_shadow(&rt, rt.alloc(), 2048, 0, &NO_FRAME, &words, 2048)?;
+    check_shadow(&rt, 2048, 0, &NO_FRAME, &words, 2048)?;
     let words = [(1, 1), (16, 4), (512, 0), (513, 0x801), (1536, 0x10cf)];
-    check_shadow(&rt, rt.alloc(), 2560, 0, &TOO_FEW, &words, 2048)?;
+    check_shadow(&rt, 2560, 0, &TOO_FEW, &words, 2048)?;
     let words = [
         (1, 1),
         (16, 5),
@@ -108,7 +108,7 @@ fn full_pools_are_reset(rt: HostRuntime) -> Result<(), Fail> {
         (1025, 0x1001),
         (2048, 0x10cf),
     ];
-    check_shadow(&rt, rt.alloc(), 2560, 0, &ENOUGH, &words, 2560)
+    check_shadow(&rt, 2560, 0, &ENOUGH, &words, 2560)
 }
 
 // Fences, and where loads of the first page, the second page, the first page of ASID 2 and that of the upper half come to
@@ -145,7 +145,7 @@ fn each_fence_forgets_what_it_covers(rt: HostRuntime) -> Result<(), Fail> {
             Step::Load(2, 0, Some(frames[2])),
             Step::Load(1, UPPER, Some(frames[3])),
         ];
-        check_shadow(&rt, rt.alloc(), 8192, 0, &steps, &[], 8192)?;
+        check_shadow(&rt, 8192, 0, &steps, &[], 8192)?;
     }
     Ok(())
 }
@@ -169,7 +169,7 @@ fn leaves_have_the_rights_of_both_stages(rt: HostRuntime) -> Result<(), Fail> {
     for (leaf, host, kept, next) in RIGHTS.iter() {
         let steps = [Step::Set(FIRST, *leaf), Step::Load(1, 0, Some(4))];
         let words = [(1536, *kept), (16, *next)];
-        check_shadow(&rt, rt.alloc(), 2048, *host, &steps, &words, 2048)?;
+        check_shadow(&rt, 2048, *host, &steps, &words, 2048)?;
     }
     Ok(())
 }
@@ -183,7 +183,7 @@ fn every_asid_in_both_halves(rt: HostRuntime) -> Result<(), Fail> {
             Step::Load(asid, UPPER, Some(4)),
             Step::Load(asid, LAST, Some(4)),
         ];
-        follow(&rt, rt.alloc(), &mut shadow, 0, &steps)?;
+        follow(&rt, &mut shadow, 0, &steps)?;
     }
     for asid in 0..16 {
         let steps = [
@@ -196,7 +196,7 @@ fn every_asid_in_both_halves(rt: HostRuntime) -> Result<(), Fail> {
             Step::Load(asid, 0, Some(6)),
             Step::Load(asid, LAST, None),
         ];
-        follow(&rt, rt.alloc(), &mut shadow, 0, &steps)?;
+        follow(&rt, &mut shadow, 0, &steps)?;
     }
     Ok(())
 }

@@ -53,7 +53,8 @@ impl<'a, M: Memory> GuestMemory<'a, M> {
         Ok(Landing::by_leaf(leaf))
     }
 
-    // The host stage for a kind of access.
+    // The host stage for a kind of access. The guest's goes the same way over rights and faults of its own: one function for both
+    // would be handed these as two closures, and be longer than either.
     fn stage(&self, kind: Kind, page: Page) -> Result<Landing, HostFault>
         ensures answer { result ≡ host_stage (M.Memory.words self.now.memory.now) self.now.root.register kind page.number }
         ensures fits { IfOk result (λ at. at.frame < 2 ^ 52) }

@@ -58,6 +58,7 @@ impl Set {
     }
 
     /// Puts the grant in the first way of its page and ASID, else in the first empty way, else in the next way.
+    // That `next` is a way is a ghost field of the table, of all its sets: with one here a set could derive no `Default`.
     pub(crate) fn fill(&mut self, grant: Grant)
         requires { self.old.next < 4 }
         ensures { self.new ≡ filled grant self.old }

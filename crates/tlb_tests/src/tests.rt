@@ -4,7 +4,6 @@ use access::{Access, Kind, Mode};
 use memory::{Memory, Words};
 use registers::{GuestRoot, HostRoot, Roots};
 use stages::World;
-use std::alloc::Global;
 use std::process::Abort;
 use std::test::Fail;
 use tlb::Tlb;
@@ -52,14 +51,13 @@ fn load<T: Translator, M: Memory>(
 
 // Loads from the pages in turn, by a table of one leaf.
 fn visit<T: Translator>(
-    rt: &impl Abort,
-    heap: Global,
+    rt: &(impl Abort + AllocGlobal),
     translator: &mut T,
     leaf: u64,
     asid: u64,
     pages: &[u16],
 ) -> Result<(), Fail> {
-    let mut words = vec![in heap; 0u64; WORDS]?;
+    let mut words = vec![in rt.alloc(); 0u64; WORDS]?;
     let mut memory = Words { words: &mut words };
     memory.write(0, leaf)?;
     for page in pages {
@@ -86,13 +84,13 @@ fn recall<T: Translator, const N: usize>(
 fn a_full_set_is_replaced_in_turn(rt: HostRuntime) -> Result<(), Fail> {
     let mut tlb = Tlb::new(rt.alloc(), Nested)?;
     // 64 replaces 0 in way 0, and 80 replaces 16 in way 1
-    visit(&rt, rt.alloc(), &mut tlb, LEAF, 1, &[0, 16, 32, 48, 64, 80])?;
+    visit(&rt, &mut tlb, LEAF, 1, &[0, 16, 32, 48, 64, 80])?;
     // 96 goes to way 2, left empty, and the counter stays at 2, so that 112 replaces 96
     tlb.fence(Fence {
         address: Some(32 << 12),
         asid: None,
     });
-    visit(&rt, rt.alloc(), &mut tlb, LEAF, 1, &[96, 112])?;
+    visit(&rt, &mut tlb, LEAF, 1, &[96, 112])?;
     assert_eq!(rt;
         recall(&mut tlb, 1, &[64, 80, 112, 48]),
         [Some(64), Some(80), Some(112), Some(48)]
@@ -107,8 +105,8 @@ fn a_full_set_is_replaced_in_turn(rt: HostRuntime) -> Result<(), Fail> {
 #[test]
 fn a_grant_takes_the_way_of_its_page_and_asid(rt: HostRuntime) -> Result<(), Fail> {
     let mut tlb = Tlb::new(rt.alloc(), Nested)?;
-    visit(&rt, rt.alloc(), &mut tlb, FETCH_LEAF, 1, &[0, 0, 0])?;
-    visit(&rt, rt.alloc(), &mut tlb, LEAF, 1, &[16, 32, 0, 48])?;
+    visit(&rt, &mut tlb, FETCH_LEAF, 1, &[0, 0, 0])?;
+    visit(&rt, &mut tlb, LEAF, 1, &[16, 32, 0, 48])?;
     assert_eq!(rt;
         recall(&mut tlb, 1, &[0, 16, 32, 48]),
         [Some(0), Some(16), Some(32), Some(48)]
@@ -119,8 +117,8 @@ fn a_grant_takes_the_way_of_its_page_and_asid(rt: HostRuntime) -> Result<(), Fai
 #[test]
 fn a_page_has_a_way_for_each_asid(rt: HostRuntime) -> Result<(), Fail> {
     let mut tlb = Tlb::new(rt.alloc(), Nested)?;
-    visit(&rt, rt.alloc(), &mut tlb, LEAF, 1, &[5])?;
-    visit(&rt, rt.alloc(), &mut tlb, LEAF, 2, &[5])?;
+    visit(&rt, &mut tlb, LEAF, 1, &[5])?;
+    visit(&rt, &mut tlb, LEAF, 2, &[5])?;
     assert_eq!(rt; recall(&mut tlb, 1, &[5]), [Some(5)]);
     assert_eq!(rt; recall(&mut tlb, 2, &[5]), [Some(5)]);
     assert_eq!(rt; recall(&mut tlb, 3, &[5]), [None]);
@@ -130,7 +128,7 @@ fn a_page_has_a_way_for_each_asid(rt: HostRuntime) -> Result<(), Fail> {
 #[test]
 fn a_global_grant_answers_every_asid(rt: HostRuntime) -> Result<(), Fail> {
     let mut tlb = Tlb::new(rt.alloc(), Nested)?;
-    visit(&rt, rt.alloc(), &mut tlb, GLOBAL_LEAF, 1, &[5])?;
+    visit(&rt, &mut tlb, GLOBAL_LEAF, 1, &[5])?;
     tlb.fence(Fence {
         address: None,
         asid: Some(1),
@@ -145,8 +143,8 @@ fn a_global_grant_answers_every_asid(rt: HostRuntime) -> Result<(), Fail> {
 #[test]
 fn a_fence_empties_what_it_covers(rt: HostRuntime) -> Result<(), Fail> {
     let mut tlb = Tlb::new(rt.alloc(), Nested)?;
-    visit(&rt, rt.alloc(), &mut tlb, LEAF, 1, &[1, 2, 3])?;
-    visit(&rt, rt.alloc(), &mut tlb, LEAF, 2, &[1, 2, 3])?;
+    visit(&rt, &mut tlb, LEAF, 1, &[1, 2, 3])?;
+    visit(&rt, &mut tlb, LEAF, 2, &[1, 2, 3])?;
     // The page of an address under one ASID, then under all
     tlb.fence(Fence {
         address: Some(0x1ff8),
@@ -178,7 +176,7 @@ fn a_fence_empties_what_it_covers(rt: HostRuntime) -> Result<(), Fail> {
 #[test]
 fn a_buffer_fills_from_the_buffer_below(rt: HostRuntime) -> Result<(), Fail> {
     let mut lower = Tlb::new(rt.alloc(), Nested)?;
-    visit(&rt, rt.alloc(), &mut lower, LEAF, 1, &[5, 6])?;
+    visit(&rt, &mut lower, LEAF, 1, &[5, 6])?;
     let mut upper = Tlb::new(rt.alloc(), lower)?;
     assert_eq!(rt; recall(&mut upper, 1, &[5]), [Some(5)]);
     assert_eq!(rt; recall(&mut upper, 1, &[7]), [None]);
@@ -197,7 +195,7 @@ fn a_buffer_fills_from_the_buffer_below(rt: HostRuntime) -> Result<(), Fail> {
 #[test]
 fn a_buffer_keeps_what_is_forgotten_below(rt: HostRuntime) -> Result<(), Fail> {
     let mut once = Once { grant: None };
-    visit(&rt, rt.alloc(), &mut once, LEAF, 1, &[5])?;
+    visit(&rt, &mut once, LEAF, 1, &[5])?;
     let mut tlb = Tlb::new(rt.alloc(), once)?;
     // The grant below answers once, and then that of the buffer does
     assert_eq!(rt; recall(&mut tlb, 1, &[5, 5]), [Some(5), Some(5)]);

@@ -30,23 +30,23 @@ fn is_unreadable_with(
 }
 
 // Every damage to one line, at each of its bytes.
-fn every_damage(rt: &impl Abort, heap: Global, line: &[u8]) -> Result<(), AllocError> {
+fn every_damage(rt: &(impl Abort + AllocGlobal), line: &[u8]) -> Result<(), AllocError> {
     assert!(rt; !is_unreadable(line), "the line itself");
     for at in 0..line.len() {
         for byte in [0, b'\t', b'\r', b'A', b'F', b'~', 0x80, 0xff] {
-            let other = is_unreadable_with(heap, line, at, 1, &[byte])?;
+            let other = is_unreadable_with(rt.alloc(), line, at, 1, &[byte])?;
             assert!(rt; other, "another byte");
-            let more = is_unreadable_with(heap, line, at, 0, &[byte])?;
+            let more = is_unreadable_with(rt.alloc(), line, at, 0, &[byte])?;
             assert!(rt; more, "a byte more");
         }
-        let less = is_unreadable_with(heap, line, at, 1, &[])?;
+        let less = is_unreadable_with(rt.alloc(), line, at, 1, &[])?;
         assert!(rt; less, "a byte less");
-        let space = is_unreadable_with(heap, line, at, 0, b" ")?;
+        let space = is_unreadable_with(rt.alloc(), line, at, 0, b" ")?;
         assert!(rt; space, "a space more");
-        let end = is_unreadable_with(heap, line, at, 0, b"\n")?;
+        let end = is_unreadable_with(rt.alloc(), line, at, 0, b"\n")?;
         assert!(rt; end, "LF before the end");
     }
-    let end = is_unreadable_with(heap, line, line.len(), 0, b"\n")?;
+    let end = is_unreadable_with(rt.alloc(), line, line.len(), 0, b"\n")?;
     assert!(rt; end, "LF after the end");
     Ok(())
 }
@@ -70,7 +70,7 @@ fn damage_at_each_byte(rt: HostRuntime) -> Result<(), Fail> {
         b"op=y\n",
     ];
     for line in lines {
-        every_damage(&rt, rt.alloc(), line)?;
+        every_damage(&rt, line)?;
     }
     Ok(())
 }
