@@ -48,9 +48,9 @@ next_is_plain m cs xs end run j c d x e fence f g =
 
 -- an access that is done answers no fault
 done_no_fault : (kind : Kind) (w : World) (i new : ℕ) (fault : Fault) → Faulted fault ≡ (done_by kind w i new).0 → ⊥
-done_no_fault Load w i new fault e = let z : ◌≡◌ {A = ℕ} 0 1 = cc in omega arith
-done_no_fault Store w i new fault e = let z : ◌≡◌ {A = ℕ} 0 1 = cc in omega arith
-done_no_fault Fetch w i new fault e = let z : ◌≡◌ {A = ℕ} 0 1 = cc in omega arith
+done_no_fault Load w i new fault e = cc
+done_no_fault Store w i new fault e = cc
+done_no_fault Fetch w i new fault e = cc
 
 -- an answer that is a fault is the translation's, and changes neither words nor roots
 landed_fault : (r : Result ℕ Fault) (w : World) (a : Access) (new : ℕ) (fault : Fault) → Faulted fault ≡ (landed w a new r).0 → (r ≡ Err fault) × ((landed w a new r).1.world ≡ w)

@@ -1,5 +1,5 @@
 -- What fences cover.
-use Rattle.std.proofs.Common.{◌≡◌, ℕ, ◌/◌, ◌^◌, ◌<◌, ◌≤◌, Bool, true, false, cond, not, ◌&&◌, eqb, ◌⊎◌, ◌↔◌, Some, None, Option, sym, refl, ap, ◌∙◌, subst, inl, inr, ⊎_elim, arith}
+use Rattle.std.proofs.Common.{◌≡◌, ℕ, ◌/◌, ◌^◌, ◌<◌, ◌≤◌, Bool, true, false, cond, not, eqb, ◌⊎◌, ◌↔◌, Some, None, Option, sym, refl, ap, ◌∙◌, subst, inl, inr, ⊎_elim, arith}
 use Rattle.std.proofs.lemmas.Bool.{cases_Bool, both_ways, and_parts, and_from, not-true, not_from_false, eqb-true, eq-eqb, leb-true, le-leb}
 use Rattle.registers.specs.Registers.{asid_of}
 use Rattle.translator.specs.declared.fences.Fence.{Fence}
@@ -14,35 +14,35 @@ use Rattle.history.specs.Asks.{nothing, forget, asks_by}
 use Rattle.history.specs.Settled.{global_at, CoversBy, Covers}
 use Rattle.history.specs.Vocabulary.{OfPage, OfAsid, FitsAsid, fence_all, GrantsCovered, MomentsCovered}
 
+-- what is none or else holds, holds of what is there
+else_of : {X B : Type 0} {o : Option X} {x : X} → o ≡ Some x → (o ≡ None) ⊎ B → B
+else_of e (inl n) = absurd cc
+else_of e (inr b) = b
+
 -- the three tests of a fence, as propositions
 of_page : (o : Option ℕ) (page : ℕ) → (covers_page o page ≡ true) ↔ ((o ≡ None) ⊎ ((address : ℕ) × (o ≡ Some address) × (address / 2 ^ 12 ≡ page)))
 of_page None page = (λ e. inl refl, λ h. refl)
-of_page (Some address) page = (λ e. inr (address, refl, eqb-true _ _ e), back)
-  where
-    back : (Some address ≡ None) ⊎ ((x : ℕ) × (Some address ≡ Some x) × (x / 2 ^ 12 ≡ page)) → eqb (address / 2 ^ 12) page ≡ true
-    back (inl e) = absurd (let z : ◌≡◌ {A = ℕ} 0 1 = cc in omega arith)
-    back (inr h) = let f = h.1 in let same : address ≡ h.0 = cc in eq-eqb _ _ (ap (λ y. y / 2 ^ 12) same ∙ h.2)
+of_page (Some address) page = (
+  λ e. inr (address, refl, eqb-true _ _ e),
+  λ o. let h = else_of refl o in let f = h.1 in let same : address ≡ h.0 = cc in eq-eqb _ _ (ap (λ y. y / 2 ^ 12) same ∙ h.2),
+)
 
 of_asid : (o : Option ℕ) (asid : ℕ) (global : Bool) → (covers_asid o asid global ≡ true) ↔ ((o ≡ None) ⊎ ((o ≡ Some asid) × (global ≡ false)))
 of_asid None asid global = (λ e. inl refl, λ h. refl)
-of_asid (Some k) asid global =
-    (λ e. let p = and_parts (eqb k asid) (not global) e in inr (ap Some (eqb-true _ _ p.0), not-true global p.1), back)
-  where
-    back : (Some k ≡ None) ⊎ ((Some k ≡ Some asid) × (global ≡ false)) → eqb k asid && not global ≡ true
-    back (inl e) = absurd (let z : ◌≡◌ {A = ℕ} 0 1 = cc in omega arith)
-    back (inr h) = let f = h.0 in let same : k ≡ asid = cc in and_from (eqb k asid) (not global) (eq-eqb k asid same) (not_from_false global h.1)
+of_asid (Some k) asid global = (
+  λ e. let p = and_parts (eqb k asid) (not global) e in inr (ap Some (eqb-true _ _ p.0), not-true global p.1),
+  λ o. let h = else_of refl o in let f = h.0 in let same : k ≡ asid = cc in and_from (eqb k asid) (not global) (eq-eqb k asid same) (not_from_false global h.1),
+)
 
 fits_asid : (o : Option ℕ) → (is_fence_asid o ≡ true) ↔ ((o ≡ None) ⊎ ((asid : ℕ) × (o ≡ Some asid) × (asid ≤ 15)))
 fits_asid None = (λ e. inl refl, λ h. refl)
-fits_asid (Some k) = (λ e. inr (k, refl, leb-true _ _ e), back)
-  where
-    back : (Some k ≡ None) ⊎ ((x : ℕ) × (Some k ≡ Some x) × (x ≤ 15)) → is_fence_asid (Some k) ≡ true
-    back (inl e) = absurd (let z : ◌≡◌ {A = ℕ} 0 1 = cc in omega arith)
-    back (inr h) = let f = h.1 in let l = h.2 in let same : k ≡ h.0 = cc in le-leb k 15 (omega arith)
+fits_asid (Some k) = (
+  λ e. inr (k, refl, leb-true _ _ e),
+  λ o. let h = else_of refl o in let f = h.1 in let l = h.2 in let same : k ≡ h.0 = cc in le-leb k 15 (omega arith),
+)
 
 not_fits : (f : Fence) (k : ℕ) → f.asid ≡ Some k → 15 < k → FitsAsid f → ⊥
-not_fits f k e l (inl n) = let z : ◌≡◌ {A = ℕ} 0 1 = cc in omega arith
-not_fits f k e l (inr h) = let i = h.1 in let b = h.2 in let same : k ≡ h.0 = cc in omega arith
+not_fits f k e l o = let h = else_of e o in let i = h.1 in let b = h.2 in let same : k ≡ h.0 = cc in omega arith
 
 module _ (f : Fence) (asid page : ℕ) (global : Bool) where
   -- a fence covers exactly what is of its page and its ASID
@@ -57,16 +57,13 @@ module _ (f : Fence) (asid page : ℕ) (global : Bool) where
   spares outside = ⊎_elim (λ e. absurd (outside (covers_exactly.0 e))) (λ e. e) (cases_Bool (covers f asid page global))
 
   not_global : (k : ℕ) → f.asid ≡ Some k → global ≡ true → OfAsid f asid global → ⊥
-  not_global k e g (inl n) = let z : ◌≡◌ {A = ℕ} 0 1 = cc in omega arith
-  not_global k e g (inr h) = both_ways global h.1 g
+  not_global k e g o = both_ways global (else_of e o).1 g
 
   not_asid : (k : ℕ) → f.asid ≡ Some k → (k ≡ asid → ⊥) → OfAsid f asid global → ⊥
-  not_asid k e other (inl n) = let z : ◌≡◌ {A = ℕ} 0 1 = cc in omega arith
-  not_asid k e other (inr h) = let i = h.0 in other (cc)
+  not_asid k e other o = let i = (else_of e o).0 in other cc
 
   not_page : (address : ℕ) → f.address ≡ Some address → (address / 2 ^ 12 ≡ page → ⊥) → OfPage f page → ⊥
-  not_page address e other (inl n) = let z : ◌≡◌ {A = ℕ} 0 1 = cc in omega arith
-  not_page address e other (inr h) = let i = h.1 in let same : address ≡ h.0 = cc in other (ap (λ y. y / 2 ^ 12) same ∙ h.2)
+  not_page address e other o = let h = else_of e o in let i = h.1 in let same : address ≡ h.0 = cc in other (ap (λ y. y / 2 ^ 12) same ∙ h.2)
 
 pub grants_covered : GrantsCovered
 grants_covered =
@@ -79,7 +76,7 @@ grants_covered =
     }
 
 host_not_guest : host ≡ guest → ⊥
-host_not_guest e = let z : ◌≡◌ {A = ℕ} 0 1 = cc in omega arith
+host_not_guest e = cc
 
 -- what is needed for a guest fence to cover
 abbrev Needs : Side → Fence → ℕ → Moment → Type 0

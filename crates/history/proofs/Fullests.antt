@@ -1,5 +1,5 @@
 -- True grants, and the fullest of a page.
-use Rattle.std.proofs.Common.{◌≡◌, ℕ, Bool, true, false, cond, Some, None, Ok, Err, Option, Result, sym, refl, ap, ◌∙◌, subst, arith}
+use Rattle.std.proofs.Common.{◌≡◌, ℕ, Bool, true, false, cond, Some, None, Ok, Err, Option, Result, sym, refl, ap, ◌∙◌, subst}
 use Rattle.std.specs.Result.{result_map_both}
 use Rattle.std.proofs.lemmas.Bool.{both_ways, cond-true}
 use Rattle.table.specs.declared.walks.Leaf.{Leaf}
@@ -113,9 +113,9 @@ module _ (w : World) (g h : Grant) (page : g.page ≡ h.page) (f : Fullest w h) 
 -- under an Sv39 guest root a page comes to its frame by a leaf
 leaf_by : {F : Type 0} (walk : F → GuestFault) (canonical : Bool) (r : Result Leaf F) (at : Landing) → cond canonical (result_map_both by_leaf walk r) (Err NotCanonical) ≡ Ok at
     → at.leaf ≡ None → ⊥
-leaf_by walk true (Ok leaf) at e n = let same : by_leaf leaf ≡ at = cc in let z : ◌≡◌ {A = ℕ} 0 1 = cc (ap (λ l. l.leaf) same) in omega arith
-leaf_by walk true (Err fault) at e n = let z : ◌≡◌ {A = ℕ} 0 1 = cc in omega arith
-leaf_by walk false r at e n = let z : ◌≡◌ {A = ℕ} 0 1 = cc in omega arith
+leaf_by walk true (Ok leaf) at e n = let same : by_leaf leaf ≡ at = cc in cc (ap (λ l. l.leaf) same)
+leaf_by walk true (Err fault) at e n = cc
+leaf_by walk false r at e n = cc
 
 paged_leaf : (w : World) (p : ℕ) (at : Landing) → is_paged w.guest ≡ true → guest_path w p ≡ Ok at → at.leaf ≡ None → ⊥
 paged_leaf w p at paged e n = leaf_by Walk (is_canonical p) _ at (sym (cond-true (is_paged w.guest) _ _ paged) ∙ e) n
@@ -133,7 +133,7 @@ module _ (w : World) (a : Access) (frame : ℕ) (paged : is_paged w.guest ≡ tr
 
   fullest_there : (q : Result Translation Fault) → translate_of w a ≡ q → result_map_both (λ t. t.frame) (λ fault. fault) q ≡ Ok frame → There
   fullest_there (Ok t) e f = let same : t.frame ≡ frame = cc in there_by t t.guest e same refl (made_fullest w a t e)
-  fullest_there (Err fault) e f = absurd (let z : ◌≡◌ {A = ℕ} 0 1 = cc in omega arith)
+  fullest_there (Err fault) e f = absurd cc
 
 pub grants_true : GrantsTrue
 grants_true =

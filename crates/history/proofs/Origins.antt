@@ -68,7 +68,7 @@ covers_grant_lem f o g t e =
 -- the first item that passes a test passes it, and what holds of all items holds of it
 first_of_lem : {X : Type 0} (test : X → Bool) (P : X → Type 0) (xs : List X) (x : X) → AllByRecursion P xs → first_of test xs ≡ Some x → P x × (test x ≡ true)
 unfolding first_of
-first_of_lem test P [] x all e = absurd (let z : ◌≡◌ {A = ℕ} 0 1 = cc in omega arith)
+first_of_lem test P [] x all e = absurd cc
 first_of_lem test P (y ∷ ys) x all e = on (test y) refl (first_of_lem test P ys x all.1)
   where
     on : (b : Bool) → test y ≡ b → (first_of test ys ≡ Some x → P x × (test x ≡ true)) → P x × (test x ≡ true)
@@ -105,7 +105,7 @@ answering_is w a P book g all e = on (consults w a) refl
         let f : first_of (serves (asid_of w.guest) a) book ≡ Some g = rw q at e in
         let r = first_of_lem (serves (asid_of w.guest) a) P book g all f in
         (r.0, answering_by w a g q r.1)
-    on false q = let f : None ≡ Some g = rw q at e in absurd (let z : ◌≡◌ {A = ℕ} 0 1 = cc in omega arith)
+    on false q = let f : None ≡ Some g = rw q at e in absurd cc
 
 -- a moment where an answering grant was true bears on the access
 pub answering_bears : (o m : Moment) (a : Access) (g : Grant) → True o.world g → Answering m.world a g → Bears o m a

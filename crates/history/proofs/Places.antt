@@ -5,7 +5,7 @@ use Rattle.std.specs.List.{slice_get}
 module _ {X : Type 0} where
   -- nothing stands in the empty list
   pub nth_none : (k : ℕ) (x : X) → slice_get [] k ≡ Some x → ⊥
-  nth_none k x e = let z : ◌≡◌ {A = ℕ} 0 1 = cc in omega arith
+  nth_none k x e = cc
 
   -- what stands at a place stands inside
   pub nth_inside : (xs : List X) (k : ℕ) (x : X) → slice_get xs k ≡ Some x → k < length xs

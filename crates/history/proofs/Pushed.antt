@@ -1,9 +1,5 @@
 -- One call more at the end of a run.
 use Rattle.std.proofs.Common.{List, [], ◌∷◌, ◌++◌, sym, refl, subst}
-use Rattle.access.specs.declared.accesses.Access.{Access}
-use Rattle.stages.specs.Stages.{World}
-use Rattle.translator.specs.declared.fences.Fence.{Fence}
-use Rattle.translator.specs.declared.replies.Reply.{Reply}
 use Rattle.translator.specs.declared.translators.Translator.{Ghosts}
 use Rattle.calls.specs.declared.Call.{Call}
 use Rattle.calls.specs.declared.Answer.{Answer}

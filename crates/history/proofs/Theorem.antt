@@ -1,8 +1,7 @@
 -- The agreement theorem.
-use Rattle.std.proofs.Common.{◌≡◌, suc, List, [], sym, refl}
+use Rattle.std.proofs.Common.{◌≡◌, suc, [], sym, refl}
 use Rattle.access.specs.declared.accesses.Access.{Access}
 use Rattle.stages.specs.Stages.{World}
-use Rattle.translator.specs.declared.grants.Grant.{Grant}
 use Rattle.translator.specs.declared.fences.Fence.{Fence}
 use Rattle.translator.specs.declared.replies.Reply.{Reply}
 use Rattle.translator.specs.declared.translators.Translator.{Ghosts}

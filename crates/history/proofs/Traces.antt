@@ -1,10 +1,6 @@
 -- A run by numbers: its own moments, the translator's states at them, and the step of each call.
 use Rattle.std.proofs.Common.{◌≡◌, ℕ, zero, suc, List, [], ◌∷◌, length, Some, refl, ap}
 use Rattle.std.specs.List.{slice_get}
-use Rattle.access.specs.declared.accesses.Access.{Access}
-use Rattle.stages.specs.Stages.{World}
-use Rattle.translator.specs.declared.fences.Fence.{Fence}
-use Rattle.translator.specs.declared.replies.Reply.{Reply}
 use Rattle.translator.specs.declared.translators.Translator.{Ghosts}
 use Rattle.calls.specs.declared.Call.{Call}
 use Rattle.calls.specs.declared.Answer.{Answer}
