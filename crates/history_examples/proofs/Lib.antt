@@ -1,1 +1,1 @@
-mod Edited
+pub mod Edited

@@ -2,12 +2,13 @@
 use Rattle.std.proofs.Common.{refl}
 use Rattle.table.specs.Walk.{walk_from}
 use Rattle.stages.specs.Stages.{translate_of}
+use Rattle.history_examples.specs.Editing.{words}
+use Rattle.history_examples.proofs.Edited.{edits_unsettled}
 use Rattle.worked.specs.Examples.{Examples}
 use Rattle.worked.proofs.Buffered.{remembers}
-use Rattle.worked.proofs.Unsettled.{unsettled}
 
 pub examples : Examples
-unfolding translate_of walk_from
+unfolding words translate_of walk_from
 examples =
     record {
       granted = refl;
@@ -17,5 +18,5 @@ examples =
       unmapped = refl;
       remembered = remembers;
       faulted = refl;
-      unsettled = unsettled;
+      unsettled = edits_unsettled _;
     }

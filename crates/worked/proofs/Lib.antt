@@ -1,3 +1,2 @@
 mod Buffered
-mod Unsettled
 mod Examples
