@@ -22,42 +22,42 @@ key_plain Asid = search rules
 key_plain Data = search rules
 key_plain Pa = search rules
 
--- a cut of the rest of a line
-pub cut_rest : (line : List ℕ) (at : ℕ) {xs key after : List ℕ} {m : ℕ} → xs ≡ slice_range line at (length line) → CutAs Equals xs key m after
-    → CutAs Equals (drop at line) key m after
-cut_rest line at {key = key} {after = after} {m = m} e c = subst (λ ys. CutAs Equals ys key m after) (e ∙ take_rest line at) c
+-- the key cut from the rest of a line
+module _ (line : List ℕ) (at : ℕ) {xs key after : List ℕ} {m : ℕ} (rest : xs ≡ slice_range line at (length line)) (cut : CutAs Equals xs key m after) where
+  cut_rest : CutAs Equals (drop at line) key m after
+  cut_rest = subst (λ ys. CutAs Equals ys key m after) (rest ∙ take_rest line at) cut
 
-module _ (xs key after : List ℕ) (m : ℕ) (c : CutAs Equals xs key m after) (k : Tag) (v : List ℕ) (t : ℕ) (r : List ℕ) (f : FieldIn k v t r xs) where
-  -- a field's key and what follows it are those of the cut
-  pub after_key : (key ≡ key_text k) × (m ≡ 61) × (after ≡ v ++ (t ∷ r))
-  after_key = cut_once Equals key (key_text k) m 61 after (v ++ (t ∷ r)) (sym c.whole ∙ f.text) c.plain c.marked (key_plain k) refl
+  module _ (k : Tag) (v : List ℕ) (t : ℕ) (r : List ℕ) (f : FieldIn k v t r (drop at line)) where
+    -- a field's key and what follows it are those of the cut
+    pub after_key : (key ≡ key_text k) × (m ≡ 61) × (after ≡ v ++ (t ∷ r))
+    after_key = let c = cut_rest in cut_once Equals key (key_text k) m 61 after (v ++ (t ∷ r)) (sym c.whole ∙ f.text) c.plain c.marked (key_plain k) refl
 
-  -- with no stop after the key there is no field
-  pub no_value : Lacks Stop after → ⊥
-  no_value lacks = cut_never Stop after v r t lacks after_key.2 f.stops
+    -- with no stop after the key there is no field
+    pub no_value : Lacks Stop after → ⊥
+    no_value lacks = cut_never Stop after v r t lacks after_key.2 f.stops
 
--- both cuts make a field
-pub handed : (line : List ℕ) (at : ℕ) (key after : List ℕ) (m : ℕ) (rest : List ℕ) (stop : ℕ) (f : Field)
-    → at ≤ length line → CutAs Equals (drop at line) key m after → CutAs Stop after f.value.now stop rest
-    → key ≡ key_text f.tag → f.place ≡ at + length key + 1 → Handed line at f (f.place + length f.value.now + 1) stop
-handed line at key after m rest stop f low c d e p =
-    let value = f.value.now in
-    let i : at + (length key + 1) ≡ f.place = omega arith in
-    let j : f.place + (length value + 1) ≡ f.place + length value + 1 = omega arith in
-    let one : drop f.place line ≡ after =
-    ap (λ n. drop n line) (sym i) ∙ sym (drop-drop (length key + 1) at line) ∙ ap (drop (length key + 1)) c.whole ∙ drop_cut key after m in
-    let two : drop (f.place + length value + 1) line ≡ rest =
-    ap (λ n. drop n line) (sym j) ∙ sym (drop-drop (length value + 1) f.place line) ∙ ap (drop (length value + 1)) (one ∙ d.whole) ∙ drop_cut value rest stop in
-    let cw = c.whole in
-    let cm : m ≡ 61 = c.marked in
-    let dw = d.whole in
-    let tv = take_at value (stop ∷ rest) (length value) refl in
-    record {
-      here = record { text = cc; plain = d.plain; stops = d.marked };
-      place = cc;
-      steps = refl;
-      inside = omega (arith, ap length c.whole, length_cut key after m, ap length d.whole, length_cut value rest stop, length-drop at line);
-    }
+  -- both cuts make a field
+  pub handed : (past : List ℕ) (stop : ℕ) (f : Field) → at ≤ length line → CutAs Stop after f.value.now stop past
+      → key ≡ key_text f.tag → f.place ≡ at + length key + 1 → Handed line at f (f.place + length f.value.now + 1) stop
+  handed past stop f low d e p =
+      let c = cut_rest in
+      let value = f.value.now in
+      let i : at + (length key + 1) ≡ f.place = omega arith in
+      let j : f.place + (length value + 1) ≡ f.place + length value + 1 = omega arith in
+      let one : drop f.place line ≡ after =
+      ap (λ n. drop n line) (sym i) ∙ sym (drop-drop (length key + 1) at line) ∙ ap (drop (length key + 1)) c.whole ∙ drop_cut key after m in
+      let two : drop (f.place + length value + 1) line ≡ past =
+      ap (λ n. drop n line) (sym j) ∙ sym (drop-drop (length value + 1) f.place line) ∙ ap (drop (length value + 1)) (one ∙ d.whole) ∙ drop_cut value past stop in
+      let cw = c.whole in
+      let cm : m ≡ 61 = c.marked in
+      let dw = d.whole in
+      let tv = take_at value (stop ∷ past) (length value) refl in
+      record {
+        here = record { text = cc; plain = d.plain; stops = d.marked };
+        place = cc;
+        steps = refl;
+        inside = omega (arith, ap length c.whole, length_cut key after m, ap length d.whole, length_cut value past stop, length-drop at line);
+      }
 
 -- after a field less of the line is left
 pub goes_on : (line : List ℕ) (at : ℕ) (f : Field) (on stop : ℕ) → Handed line at f on stop → length line - on < length line - at
