@@ -13,7 +13,7 @@ unfolding lines_of
 no_trace trace n e o =
     let none : lines_of trace ≡ [] = ap lines_of e in
     let h = o.header in
-    let z : ◌≡◌ {A = ℕ} 0 1 = cc in omega arith
+    cc
 
 -- a first line that is no header
 pub no_header : (trace line : List ℕ) (ls : List (List ℕ)) (n : ℕ) → lines_of trace ≡ line ∷ ls → ReadsHeader line None → Opens 4096 trace n → ⊥
