@@ -23,4 +23,14 @@ impl Ending {
             Ending::Space
         }
     }
+
+    /// Its byte.
+    pub fn byte(self) -> u8
+        ensures { result ≡ byte_of self }
+    {
+        match self {
+            Ending::Space => b' ',
+            Ending::LineFeed => b'\n',
+        }
+    }
 }
