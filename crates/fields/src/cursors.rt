@@ -3,7 +3,6 @@ ghost use Rattle.std.specs.Prelude.{◌≡◌, ◌-◌, ◌↔◌, IsTrue, [], �
 ghost use Rattle.std.specs.Iterator.{at_most};
 ghost use Rattle.fields.specs.Cursors.{NextField, left_of, TakesValue};
 
-use crate::endings::Ending;
 use crate::steps::{Field, field_at};
 use crate::tags::Tag;
 
@@ -13,8 +12,8 @@ pub struct Fields<'a> {
     pub line: &'a [u8],
     /// Where the next field begins. A field says the place of its value in the whole line, so that the rest alone would not do.
     pub at: usize,
-    /// What ended the last value: a space before the first field.
-    pub stop: Ending,
+    /// What ended the last value: a space or LF, or a space before the first field.
+    pub stop: u8,
 }
 
 impl<'a> Fields<'a> {
@@ -25,7 +24,7 @@ impl<'a> Fields<'a> {
         Fields {
             line,
             at: 0,
-            stop: Ending::Space,
+            stop: b' ',
         }
     }
 
@@ -35,10 +34,14 @@ impl<'a> Fields<'a> {
         ensures line { self.new.line.now ≡ self.old.line.now }
         ensures value { TakesValue tag (left_of self.old) result (left_of self.new) }
     {
+        // Where the line has ended, nothing of what follows is looked at.
+        if self.stop != b' ' {
+            return None;
+        }
         match field_at(self.line, self.at) {
-            Some(step) if step.field.tag == tag && self.stop == Ending::Space => {
+            Some(step) if step.field.tag == tag => {
                 self.at = step.next;
-                self.stop = step.stop;
+                self.stop = step.stop.byte();
                 Some(step.field.value)
             }
             _ => None,
@@ -49,7 +52,7 @@ impl<'a> Fields<'a> {
     pub fn is_done(&self) -> bool
         ensures { IsTrue result ↔ (left_of self.now ≡ 10 ∷ []) }
     {
-        self.stop == Ending::LineFeed && self.at >= self.line.len()
+        self.stop == b'\n' && self.at >= self.line.len()
     }
 }
 
@@ -64,7 +67,7 @@ impl<'a> Iterator for Fields<'a> {
     fn next(&mut self) -> Option<Field<'a>> {
         let step = field_at(self.line, self.at)?;
         self.at = step.next;
-        self.stop = step.stop;
+        self.stop = step.stop.byte();
         Some(step.field)
     }
 }

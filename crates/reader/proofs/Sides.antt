@@ -11,7 +11,6 @@ use Rattle.values.specs.Reads.{ReadsBy}
 use Rattle.operands.specs.Reads.{Takes, TakesRest, Spelled}
 use Rattle.reader.specs.Texts.{side_text}
 use Rattle.fields.proofs.Items.{lf, whole_line, field_once, fields_once, ends_more}
-use Rattle.operands.proofs.Tails.{left_ends}
 
 -- a text of one byte is that byte
 one_byte : (v : List ℕ) → length v ≡ 1 → v ≡ get_or v 0 0 ∷ []
@@ -29,7 +28,7 @@ module _ {C : Type 0} (letter : C → List ℕ) (rest : C → List Item) (spelle
   no_letter on none c e =
       let after = more_text (rest c) (10 ∷ []) in
       let one = one_byte (letter c) (spelled.one c) in
-      none (get_or (letter c) 0 0) after (subst (Lacks Stop) one (spelled.plain c).0, tt) (ends_more (rest c) (10 ∷ []) lf)
+      none.0 (get_or (letter c) 0 0) after (subst (Lacks Stop) one (spelled.plain c).0, tt) (ends_more (rest c) (10 ∷ []) lf)
       (parts c e ∙ ap (λ v. more_text ((Op, v) ∷ []) after) one)
 
   module _ (b : ℕ) (on : Fields) (first : Takes (λ b. (Op, b ∷ []) ∷ []) (32 ∷ line) (Some b) (left_of on)) where
@@ -37,13 +36,13 @@ module _ {C : Type 0} (letter : C → List ℕ) (rest : C → List Item) (spelle
     split : (c : C) → line ≡ side_text letter rest c → (letter c ≡ b ∷ []) × (left_of on ≡ more_text (rest c) (10 ∷ []))
     split c e =
         let after = more_text (rest c) (10 ∷ []) in
-        let o = field_once (Op, b ∷ []) (Op, letter c) (left_of on) after first.1.0 (spelled.plain c).0 (left_ends on) (ends_more (rest c) (10 ∷ []) lf)
+        let o = field_once (Op, b ∷ []) (Op, letter c) (left_of on) after first.1.0 (spelled.plain c).0 first.2 (ends_more (rest c) (10 ∷ []) lf)
         (sym first.0 ∙ parts c e) in
         (sym (ap (λ (i : Item). i.1) o.0), o.1)
 
     -- no call with this letter is next
     pub no_rest : (left : List ℕ) → TakesRest letter rest b (left_of on) None left → (c : C) → line ≡ side_text letter rest c → ⊥
-    no_rest left none c e = let s = split c e in none c (10 ∷ []) s.0 lf s.1
+    no_rest left none c e = let s = split c e in none.0 c (10 ∷ []) s.0 lf s.1
 
     module _ (d : C) (last : Fields) (read : TakesRest letter rest b (left_of on) (Some d) (left_of last)) where
       -- one is, up to the end of the line
@@ -59,7 +58,7 @@ module _ {C : Type 0} (letter : C → List ℕ) (rest : C → List Item) (spelle
       goes_on more c e =
           let s = split c e in
           more (fields_once (rest d) (rest c) (left_of last) (10 ∷ []) (spelled.even d c (read.0 ∙ sym s.0))
-          (spelled.plain d).1 (spelled.plain c).1 (left_ends last) lf (sym read.1 ∙ s.1)).1
+          (spelled.plain d).1 (spelled.plain c).1 (read.2 first.2) lf (sym read.1 ∙ s.1)).1
 
       -- so what the end of the line decides is the answer
       pub ended : (done : Bool) → (IsTrue done ↔ left_of last ≡ 10 ∷ []) → ReadsBy (side_text letter rest) line (then_some done d)
