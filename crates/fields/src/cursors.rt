@@ -7,7 +7,7 @@ use crate::steps::{Field, field_at};
 use crate::tags::Tag;
 
 /// A cursor that hands out the fields of a line, one at a time.
-#[derive(Drop)]
+#[derive(Clone, Copy)]
 pub struct Fields<'a> {
     pub line: &'a [u8],
     /// Where the next field begins. A field says the place of its value in the whole line, so that the rest alone would not do.
