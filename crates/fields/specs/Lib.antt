@@ -3,3 +3,4 @@ pub mod Endings
 pub mod Items
 pub mod Fields
 pub mod Cursors
+pub mod Scans

@@ -3,10 +3,12 @@
 
 mod cursors;
 mod endings;
+mod scans;
 mod steps;
 mod tags;
 
 pub use cursors::Fields;
 pub use endings::Ending;
+pub use scans::scan;
 pub use steps::{Field, Step, field_at};
 pub use tags::Tag;
