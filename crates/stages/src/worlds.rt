@@ -28,6 +28,13 @@ impl<'a, M: Memory> World<'a, M> {
         World { memory, roots }
     }
 
+    /// The memory, to read words of it, or to walk one stage alone over `HostMemory` or `GuestMemory`.
+    pub fn memory(&self) -> &'a M
+        ensures { M.Memory.words result.now ≡ self.now.words }
+    {
+        self.memory
+    }
+
     /// The two root registers.
     pub fn roots(&self) -> Roots
         ensures { (result.guest.register ≡ self.now.guest) × (result.host.register ≡ self.now.host) }
