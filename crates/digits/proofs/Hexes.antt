@@ -1,13 +1,22 @@
 -- On numbers in hexadecimal: their digits one by one, and that each has one text.
-use Rattle.std.proofs.Common.{◌≡◌, ℕ, zero, suc, ◌+◌, ◌-◌, ◌*◌, ◌/◌, ◌%◌, ◌^◌, ◌<◌, ◌≤◌, [], ◌∷◌, ◌++◌, length, get_or, sym, refl, ap, ◌∙◌, ⊎_elim, pow-suc, add-one, arith, lit<}
+use Rattle.std.proofs.Common.{◌≡◌, ℕ, zero, suc, ◌+◌, ◌-◌, ◌*◌, ◌/◌, ◌%◌, ◌^◌, ◌<◌, ◌≤◌, [], ◌∷◌, ◌++◌, map, length, get_or, take, sym, refl, ap, ◌∙◌, ⊎_elim, pow-suc, add-one, arith, lit<}
 use native.Mathlib.Nat.{pow-zero, pow-le-pow_right}
 use lib.Arith.{digits_div, digits_mod, digits_lt}
-use Rattle.std.proofs.lemmas.List.{length_push, get_or_append_left, get_or_push, same_from_push}
+use Rattle.std.specs.List.{slice_range, range_with_len}
+use Rattle.std.proofs.lemmas.List.{drop_more, length_push, get_or_append_left, get_or_push, same_from_push}
+use Rattle.std.proofs.lemmas.List.FromFn.{get_or-map-range_with_len}
 use Rattle.std.proofs.Math.Nat.{div-div-eq-div-mul}
 use Rattle.std.proofs.lemmas.Nat.{mod_below, div_below, div-add-mod', pow-add}
 use Rattle.std.proofs.lemmas.Bool.Decides.{nat_tests}
 use Rattle.std.proofs.lemmas.Bool.{cases_lt}
 use Rattle.digits.specs.Hexadecimal.{digit_char, hex_of}
+
+-- a digit's text, cut from that of all 16
+pub digit_at : (d : ℕ) → d < 16 → slice_range (map digit_char (range_with_len 0 16)) d (d + 1) ≡ digit_char d ∷ []
+digit_at d h =
+    let cs = map digit_char (range_with_len 0 16) in
+    let one : d + 1 - d ≡ 1 = omega arith in
+    rw one (ap (take 1) (drop_more cs d 0 h) ∙ ap (λ x. x ∷ []) (get_or-map-range_with_len digit_char 0 16 d d 0 h (omega arith)))
 
 pub length_hex_of : (k n : ℕ) → length (hex_of k n) ≡ k
 unfolding hex_of

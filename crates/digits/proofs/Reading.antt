@@ -1,13 +1,12 @@
 -- On a text that `parse` reads, and whether it is how its number is written.
-use Rattle.std.proofs.Common.{◌≡◌, ℕ, ◌^◌, ◌<◌, Bool, true, false, List, get_or, decimal, IsUtf8, Some, None, Ok, Err, Result, sym, refl, ap, ◌∙◌, subst, ⊎_elim, nat_le, arith}
+use Rattle.std.proofs.Common.{◌≡◌, ℕ, ◌^◌, ◌<◌, ◌≤◌, Bool, true, false, List, length, get_or, decimal, IsUtf8, Some, None, Ok, Err, Result, sym, refl, ap, ◌∙◌, subst, arith}
 use Rattle.std.specs.Result.{result_ok}
 use Rattle.std.specs.Bool.{then_some}
-use Rattle.std.specs.Str.Parse.{IsNumeral, ParsesUnsigned, without_leading_plus, digits_value}
-use Rattle.std.proofs.lemmas.Bool.{cases_lt}
+use Rattle.std.specs.Str.Parse.{IsNumeral, without_leading_plus, digits_value}
 use Rattle.std.proofs.lemmas.Bool.Decides.{nat_tests}
 use Rattle.std.proofs.lemmas.Str.{IsUtf8-from_ascii}
 use Rattle.std.proofs.lemmas.Str.Parse.{numerals_by_value, tells_digits}
-use Rattle.std.proofs.lemmas.Fmt.{first_decimal, decimal_digit, IsAscii-decimal, decimal_is_IsNumeral, decimal-digits_value}
+use Rattle.std.proofs.lemmas.Fmt.{first_decimal, length-decimal-le, IsAscii-decimal, decimal_is_IsNumeral, decimal-digits_value}
 use Rattle.digits.specs.Decimal.{ReadsDecimal}
 
 module _ {T E : Type 0} where
@@ -23,10 +22,13 @@ module _ {T E : Type 0} where
 no_plus : (bs : List ℕ) → 48 < get_or bs 0 0 → without_leading_plus bs ≡ bs
 no_plus bs h = grind (arith, nat_tests)
 
--- a number is written in UTF-8, begins with no zero, and is what its digits come to
+-- a number is written in UTF-8, with at most five digits, begins with no zero, and is what its digits come to
 module _ (bs : List ℕ) (n : ℕ) (some : 0 < n) (small : n < 2 ^ 16) (e : bs ≡ decimal n) where
   pub utf8 : IsUtf8 bs
   utf8 = subst IsUtf8 (sym e) (IsUtf8-from_ascii (decimal n) (IsAscii-decimal n (omega arith)))
+
+  pub short : length bs ≤ 5
+  short = omega (arith, ap length e, length-decimal-le 5 n (omega arith) (omega arith) (omega arith))
 
   pub first : 48 < get_or bs 0 0
   first = omega (arith, first_decimal n some (omega arith), ap (λ l. get_or l 0 0) e)
@@ -34,23 +36,22 @@ module _ (bs : List ℕ) (n : ℕ) (some : 0 < n) (small : n < 2 ^ 16) (e : bs �
   pub numeral : IsNumeral 10 (without_leading_plus bs) × (digits_value 10 (without_leading_plus bs) ≡ n)
   numeral = rw (no_plus bs first) (subst (λ l. IsNumeral 10 l × (digits_value 10 l ≡ n)) (sym e) (decimal_is_IsNumeral n (omega arith)))
 
--- a text that is read, and begins with a digit over 0, is how its number is written
-module _ (bs : List ℕ) (m : ℕ) (small : m < 2 ^ 16) (read : ParsesUnsigned {E = ℕ} 16 10 bs (Ok m)) (front : 48 < get_or bs 0 0) where
+-- a text of the digits of m, which begins with one over 0, is how m is written, and no other number is
+module _ (bs : List ℕ) (m : ℕ) (small : m < 2 ^ 64) (digits : IsNumeral 10 (without_leading_plus bs)) (value : m ≡ digits_value 10 (without_leading_plus bs)) (front : 48 < get_or bs 0 0) where
   written : bs ≡ decimal m
   written =
       let same = no_plus bs front in
-      let numeral = rw same at read in
-      sym (ap decimal numeral.1
-      ∙ decimal-digits_value (numerals_by_value _ tells_digits) bs numeral.0.0.1 numeral.0.0.0 (λ z. absurd (omega arith)) (omega (arith, numeral.1)))
+      let numeral = rw same at digits in
+      let number = rw same at value in
+      sym (ap decimal number
+      ∙ decimal-digits_value (numerals_by_value _ tells_digits) bs numeral.1 numeral.0 (λ z. absurd (omega arith)) (omega (arith, number)))
 
-  positive : 0 < m
-  positive = ⊎_elim (λ some. some) (λ none. let z : m ≡ 0 = omega arith in
-      omega (arith, ap (λ l. get_or l 0 0) (written ∙ ap decimal z ∙ decimal_digit 0 (omega arith)))) (cases_lt 0 m)
+  only : (n : ℕ) → 0 < n → n < 2 ^ 16 → bs ≡ decimal n → m ≡ n
+  only n some fits e = value ∙ (numeral bs n some fits e).1
 
-  by_test : (limit : ℕ) → limit < 2 ^ 16 → (b : Bool) → nat_le m limit ≡ b → ReadsDecimal limit bs (then_some b m)
-  by_test limit fits true t = (positive, grind (arith, nat_tests), written)
-  by_test limit fits false t = λ n h s e.
-      let k : m ≡ n = read.1 ∙ (numeral bs n h (omega arith) e).1 in grind (arith, nat_tests)
-
-  pub reads : (limit : ℕ) → limit < 2 ^ 16 → ReadsDecimal limit bs (then_some (nat_le m limit) m)
-  reads limit fits = by_test limit fits (nat_le m limit) refl
+  -- a test of whether m lies within the limit tells the answer, and where it holds n is m
+  pub reads : (limit n : ℕ) (b : Bool) → limit < 2 ^ 16 → (b ≡ true → (0 < n) × (n ≤ limit) × (n ≡ m)) → (b ≡ false → 0 < m → m ≤ limit → ⊥)
+      → ReadsDecimal limit bs (then_some b n)
+  reads limit n true fits holds fails = let r = holds refl in (r.0, r.1, written ∙ ap decimal (sym r.2))
+  reads limit n false fits holds fails = λ k some within e.
+      let o = only k some (omega arith) e in fails refl (omega arith) (omega arith)

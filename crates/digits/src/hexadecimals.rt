@@ -1,5 +1,5 @@
 //! Hexadecimal digits, lowercase.
-ghost use Rattle.std.specs.Prelude.{◌≡◌, ◌<◌, ◌%◌};
+ghost use Rattle.std.specs.Prelude.{◌≡◌, ◌<◌, [], ◌∷◌};
 ghost use Rattle.digits.specs.Hexadecimal.{digit_char, hex_of, ReadsDigit, ReadsHex};
 
 use arrayvec::ArrayString;
@@ -31,12 +31,15 @@ pub fn read_hex(bytes: &[u8]) -> Option<u64>
     Some(n)
 }
 
-// The character of the last digit of a number.
-fn last_char(n: u64) -> char
-    ensures digit { result ≡ digit_char (n % 16) }
-    ensures ascii { result < 128 }
+// All the digits, each at its value.
+const DIGITS: &str = "0123456789abcdef";
+
+// The text of a digit. A `char` would be encoded anew at each push.
+fn digit_str(digit: usize) -> &'static str
+    requires { digit < 16 }
+    ensures { result.now ≡ digit_char digit ∷ [] }
 {
-    char::from_digit((n % 16) as u32, 16).unwrap()
+    &DIGITS[digit..=digit]
 }
 
 /// The 16 digits of a number. They are pushed, since a `write!` of `{:016x}` may fail as far as its contract says.
@@ -45,7 +48,8 @@ pub fn hex16(n: u64) -> ArrayString<16>
 {
     let mut digits = ArrayString::new();
     for place in (0..16u32).rev() {
-        digits.push(last_char(n >> (4 * place)));
+        let digit = (n >> (4 * place)) as usize % 16;
+        digits.push_str(digit_str(digit));
     }
     digits
 }

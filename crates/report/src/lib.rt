@@ -1,7 +1,7 @@
 //! The lines of a report, written into bytes that are lent.
 #![tactic(auto)]
 
-ghost use Rattle.std.specs.Prelude.{◌≡◌, ◌+◌, ◌≤◌, ◌++◌, length, decimal};
+ghost use Rattle.std.specs.Prelude.{◌≡◌, ◌+◌, ◌≤◌, [], ◌++◌, decimal};
 ghost use Rattle.arrayvec.specs.ArrayString.{array_string_len};
 ghost use Rattle.digits.specs.Hexadecimal.{hex_of};
 ghost use Rattle.report.specs.Lines as lines;
@@ -16,73 +16,77 @@ use itoa::Buffer;
 /// The room that a line is given: no line is longer.
 pub const LINE_ROOM: usize = 128;
 
-// The room for what follows the number of a call.
-const ANSWER_ROOM: usize = 96;
+// A line. It lies in the value itself, for a play takes no memory. It is pushed and not printed: a `write!` may fail as
+// far as its contract says, and a line has room.
+type Line = ArrayString<LINE_ROOM>;
 
-// What follows the number of a call. It lies in the value itself, for a play takes no memory. It is pushed and not
-// printed: a `write!` may fail as far as its contract says, and a line has room.
-type Text = ArrayString<ANSWER_ROOM>;
-
-// Appends a field whose value is a number of at most three digits.
-fn push_number(text: &mut Text, name: &str, number: u8)
-    requires { array_string_len text.old + length name.now + 3 ≤ ANSWER_ROOM }
-    ensures bytes { text.new.bytes ≡ text.old.bytes ++ name.now ++ decimal number }
-    ensures len { array_string_len text.new ≤ array_string_len text.old + length name.now + 3 }
+// Appends a number of at most three digits.
+fn push_number(line: &mut Line, number: u8)
+    requires { array_string_len line.old + 3 ≤ LINE_ROOM }
+    ensures bytes { line.new.bytes ≡ line.old.bytes ++ decimal number }
+    ensures len { array_string_len line.new ≤ array_string_len line.old + 3 }
 {
-    text.push_str(name);
-    text.push_str(Buffer::new().format(number));
+    line.push_str(Buffer::new().format(number));
 }
 
-// Appends a field whose value is a word.
-fn push_word(text: &mut Text, name: &str, word: u64)
-    requires { array_string_len text.old + length name.now + 16 ≤ ANSWER_ROOM }
-    ensures bytes { text.new.bytes ≡ text.old.bytes ++ name.now ++ hex_of 16 word }
-    ensures len { array_string_len text.new ≤ array_string_len text.old + length name.now + 16 }
+// Appends a word.
+fn push_word(line: &mut Line, word: u64)
+    requires { array_string_len line.old + 16 ≤ LINE_ROOM }
+    ensures bytes { line.new.bytes ≡ line.old.bytes ++ hex_of 16 word }
+    ensures len { array_string_len line.new ≤ array_string_len line.old + 16 }
 {
-    text.push_str(name);
-    text.push_str(&hex16(word));
+    line.push_str(&hex16(word));
 }
 
-// The six numbers of a fault.
-fn fault_text(fault: Numbers) -> Text
-    ensures { result.bytes ≡ lines.numbers_text fault }
+// Appends the six numbers of a fault.
+fn push_fault(line: &mut Line, fault: Numbers)
+    requires { array_string_len line.old + 90 ≤ LINE_ROOM }
+    ensures bytes { line.new.bytes ≡ line.old.bytes ++ lines.numbers_text fault }
+    ensures len { array_string_len line.new ≤ array_string_len line.old + 90 }
 {
-    let mut text = ArrayString::new();
-    push_number(&mut text, " ans=fault cause=", fault.cause);
-    push_word(&mut text, " va=", fault.address);
-    push_word(&mut text, " gpa=", fault.guest_physical);
-    push_number(&mut text, " stage=", fault.stage);
-    push_number(&mut text, " gl=", fault.guest_level);
-    push_number(&mut text, " hl=", fault.host_level);
-    text
+    line.push_str(" ans=fault cause=");
+    push_number(line, fault.cause);
+    line.push_str(" va=");
+    push_word(line, fault.address);
+    line.push_str(" gpa=");
+    push_word(line, fault.guest_physical);
+    line.push_str(" stage=");
+    push_number(line, fault.stage);
+    line.push_str(" gl=");
+    push_number(line, fault.guest_level);
+    line.push_str(" hl=");
+    push_number(line, fault.host_level);
 }
 
-// What follows the number of the call.
-fn answer_text(answer: Answer) -> Text
-    ensures { result.bytes ≡ lines.answer_text answer }
+// Appends what follows the number of the call.
+fn push_answer(line: &mut Line, answer: Answer)
+    requires { array_string_len line.old + 90 ≤ LINE_ROOM }
+    ensures bytes { line.new.bytes ≡ line.old.bytes ++ lines.answer_text answer }
+    ensures len { array_string_len line.new ≤ array_string_len line.old + 90 }
 {
-    let mut text = ArrayString::new();
     match answer {
-        Answer::Done => text.push_str(" ans=ok"),
-        Answer::Word(word) => push_word(&mut text, " ans=word data=", word),
-        Answer::Refused(refusal) => {
-            push_number(&mut text, " ans=refused number=", refusal.number());
+        Answer::Done => line.push_str(" ans=ok"),
+        Answer::Word(word) => {
+            line.push_str(" ans=word data=");
+            push_word(line, word);
         }
-        Answer::Faulted(fault) => return fault_text(fault.numbers()),
+        Answer::Refused(refusal) => {
+            line.push_str(" ans=refused number=");
+            push_number(line, refusal.number());
+        }
+        Answer::Faulted(fault) => push_fault(line, fault.numbers()),
     }
-    text
 }
 
-// The line of the n-th call.
-fn answer_line(n: u64, answer: Answer) -> ArrayString<LINE_ROOM>
-    ensures { result.bytes ≡ lines.answer_line n answer }
+// Writes the line of the n-th call into an empty line.
+fn push_line(line: &mut Line, n: u64, answer: Answer)
+    requires { line.old.bytes ≡ [] }
+    ensures { line.new.bytes ≡ lines.answer_line n answer }
 {
-    let mut line = ArrayString::new();
     line.push_str("n=");
     line.push_str(Buffer::new().format(n));
-    line.push_str(&answer_text(answer));
+    push_answer(line, answer);
     line.push_str("\n");
-    line
 }
 
 /// Writes the line of the n-th call at `at`, and says where it ends: `None`, and nothing written, where less than
@@ -95,7 +99,9 @@ pub fn put_answer(out: &mut [u8], at: usize, n: u64, answer: Answer) -> Option<u
     if room < LINE_ROOM {
         return None;
     }
-    let line = answer_line(n, answer);
+    // The line stays where it is made: what a function returns is copied once more.
+    let mut line = ArrayString::new();
+    push_line(&mut line, n, answer);
     let end = at + line.len();
     out[at..end].copy_from_slice(line.as_bytes());
     Some(end)

@@ -1,4 +1,5 @@
 use Rattle.std.proofs.Common.{sym, ◌∙◌, arith}
+use Rattle.std.proofs.lemmas.Bool.Decides.{nat_tests}
 use Rattle.digits.proofs.Reading.{Ok-from_some, Err-from_none, utf8, numeral, reads}
 use Rattle.digits.proofs.decimals.read_decimal.Goals as goal
 
@@ -22,5 +23,9 @@ returns c =
     let text = Ok-from_some c.from_utf8.result c.in_ok-ok.field-0 (sym c.ok.ensures.value ∙ c.in_ok-ok.was) in
     let same = (rw text at c.from_utf8.ensures.cases).0 in
     let number = Ok-from_some c.parse.result c.in_ok-n.n (sym c.ok-2.ensures.value ∙ c.in_ok-n.was) in
+    let read = rw (same, number) at c.parse.ensures.value.0 in
+    let test = c.contains.ensures.cases in
     rw c.then_some.ensures
-    (reads c.args.bytes.now c.in_ok-n.n (omega arith) (rw (same, number) at c.parse.ensures.value.0) (omega arith) c.args.limit (omega arith))
+    (reads c.args.bytes.now c.in_ok-n.n (omega arith) read.0.0 read.1 (omega arith) c.args.limit _ _ (omega arith)
+    (λ e. grind (arith, nat_tests, test, e))
+    (λ e some within. grind (arith, nat_tests, test, e, some, within)))
